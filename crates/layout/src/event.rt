@@ -1,0 +1,89 @@
+// The 64-byte event record.
+use crate::words::put_head;
+use crate::words::put_u32;
+use crate::words::put_u64;
+use crate::words::u32_at;
+use crate::words::u64_at;
+use kinds::event::Event;
+use kinds::event::Parsed;
+ghost use mathlib.Core.Path.{_≡_};
+ghost use lib.ListN.{length};
+ghost use lib.Seq.{sets};
+ghost use Rattle.layout.specs.Event.{bit, doubleBytes, eventBytes, eventOf, spareZero, readEvent};
+
+fn byte_of(on: bool) -> u8
+    ensures { λ r. ⌜ r ≡ bit on ⌝ }
+{
+    if on { 1 } else { 0 }
+}
+
+fn put_doubles(bytes: &mut [u8], e: Event)
+    requires { ⌜ length (now bytes) ≡ 64 ⌝ }
+    ensures { λ _. ⌜ now (bytes .exit) ≡ sets (now (bytes .entry)) 16 (doubleBytes e) ⌝ }
+{
+    put_u64(bytes, 16, e.x);
+    put_u64(bytes, 24, e.y);
+    put_u64(bytes, 32, e.z);
+    put_u64(bytes, 40, e.m);
+    put_u64(bytes, 48, e.t);
+    put_u64(bytes, 56, e.tm);
+}
+
+pub fn put_event(bytes: &mut [u8], e: Event)
+    requires { ⌜ length (now bytes) ≡ 64 ⌝ }
+    ensures { λ _. ⌜ now (bytes .exit) ≡ eventBytes e ⌝ }
+{
+    put_head(bytes, e.kind, byte_of(e.tagged), e.present);
+    put_u32(bytes, 4, e.size);
+    put_u32(bytes, 8, e.idx);
+    put_u32(bytes, 12, 0);
+    put_doubles(bytes, e);
+}
+
+fn event_of(bytes: &[u8]) -> Event
+    requires { ⌜ length (now bytes) ≡ 64 ⌝ }
+    ensures { λ r. ⌜ r ≡ eventOf (now (bytes .entry)) ⌝ }
+{
+    let size = u32_at(bytes, 4);
+    let idx = u32_at(bytes, 8);
+    let x = u64_at(bytes, 16);
+    let y = u64_at(bytes, 24);
+    let z = u64_at(bytes, 32);
+    let m = u64_at(bytes, 40);
+    let t = u64_at(bytes, 48);
+    let tm = u64_at(bytes, 56);
+    Event {
+        kind: bytes[0],
+        tagged: bytes[1] == 1,
+        present: bytes[2],
+        size,
+        idx,
+        x,
+        y,
+        z,
+        m,
+        t,
+        tm,
+    }
+}
+
+fn spare_zero(bytes: &[u8]) -> bool
+    requires { ⌜ length (now bytes) ≡ 64 ⌝ }
+    ensures { λ r. ⌜ r ≡ spareZero (now (bytes .entry)) ⌝ }
+{
+    (bytes[1] <= 1) & (bytes[3] == 0) & (u32_at(bytes, 12) == 0)
+}
+
+pub fn read_event(bytes: &[u8]) -> Parsed
+    ensures { λ r. ⌜ r ≡ readEvent (now (bytes .entry)) ⌝ }
+{
+    if bytes.len() != 64 {
+        return Parsed::Malformed;
+    }
+    let e = event_of(bytes);
+    if spare_zero(bytes) & e.well_formed() {
+        Parsed::WellFormed(e)
+    } else {
+        Parsed::Malformed
+    }
+}
