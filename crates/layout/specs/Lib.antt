@@ -1,4 +1,6 @@
 pub mod Head
 pub mod Event
+pub mod EventLaws
 pub mod Geometry
+pub mod GeometryLaws
 pub mod Value
