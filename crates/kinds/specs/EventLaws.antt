@@ -1,11 +1,11 @@
 -- Laws of events.
-use mathlib.Core.Path.{_≡_, refl, sym}
+use mathlib.Core.Path.{_≡_, refl}
 use mathlib.Core.Bool.{Bool, true, false, _&&_, _||_, Bool·beq}
 use Prim.Native.Nat.{ℕ, _+_, _≤_, _<_}
 use native.Mathlib.Omega.{arith}
-use lib.Dec.{T, eqb}
+use lib.Dec.{eqb}
 use borrow.Author.Tests.{ne-eqb}
-use Rattle.laws.specs.Range.{every, every-at, T-and}
+use Rattle.laws.specs.Every.{never, both, other, every, every-at}
 use Rattle.kinds.specs.declared.event.Uses.{Uses}
 use Rattle.kinds.specs.Event.{usesOf}
 
@@ -13,16 +13,18 @@ use Rattle.kinds.specs.Event.{usesOf}
 abbrev pub same : Uses → Uses → Bool
 same u v = Bool·beq (u .idx) (v .idx) && (Bool·beq (u .tagged) (v .tagged) && (Bool·beq (u .size) (v .size) && (Bool·beq (u .pair) (v .pair) && Bool·beq (u .present) (v .present))))
 
-beq-eq : (a b : Bool) → T (Bool·beq a b) → a ≡ b
+beq-eq : (a b : Bool) → Bool·beq a b ≡ true → a ≡ b
 beq-eq true true t = refl
+beq-eq true false t = absurd (never t)
+beq-eq false true t = absurd (never t)
 beq-eq false false t = refl
 
-same-eq : (u v : Uses) → T (same u v) → u ≡ v
+same-eq : (u v : Uses) → same u v ≡ true → u ≡ v
 same-eq u v t =
-    let a = T-and (Bool·beq (u .idx) (v .idx)) _ t in
-    let b = T-and (Bool·beq (u .tagged) (v .tagged)) _ (a .1) in
-    let c = T-and (Bool·beq (u .size) (v .size)) _ (b .1) in
-    let d = T-and (Bool·beq (u .pair) (v .pair)) _ (c .1) in
+    let a = both (Bool·beq (u .idx) (v .idx)) _ t in
+    let b = both (Bool·beq (u .tagged) (v .tagged)) _ (a .1) in
+    let c = both (Bool·beq (u .size) (v .size)) _ (b .1) in
+    let d = both (Bool·beq (u .pair) (v .pair)) _ (c .1) in
     λ i. record {
       idx = beq-eq (u .idx) (v .idx) (a .0) i;
       tagged = beq-eq (u .tagged) (v .tagged) (b .0) i;
@@ -31,9 +33,14 @@ same-eq u v t =
       present = beq-eq (u .present) (v .present) (d .1) i;
     }
 
-pub uses-in : (a n : ℕ) (u : Uses) (kind : ℕ) → T (every (λ x. same u (usesOf x)) a n) → a ≤ kind → kind < a + n → u ≡ usesOf kind
-uses-in a n u kind t h k = same-eq u (usesOf kind) (every-at (λ x. same u (usesOf x)) a n kind t h k)
+pub uses-in : (from n : ℕ) (u : Uses) (kind : ℕ) → every (λ x. same u (usesOf x)) from n ≡ true → from ≤ kind → kind < from + n → u ≡ usesOf kind
+uses-in from n u kind t h k = same-eq u (usesOf kind) (every-at (λ x. same u (usesOf x)) from n kind t h k)
+
+abbrev pair : ℕ → Bool
+pair kind = eqb kind 64 || eqb kind 65
 
 -- past the last end, but for xy and coordinate
-pub uses-past : (u : Uses) (kind : ℕ) → T (every (λ x. eqb x 64 || (eqb x 65 || same u (usesOf x))) 50 206) → 50 ≤ kind → kind < 256 → (kind ≡ 64 → ⊥) → (kind ≡ 65 → ⊥) → u ≡ usesOf kind
-uses-past u kind t h k a b = same-eq u (usesOf kind) (simp (ne-eqb kind 64 a, ne-eqb kind 65 b) at (every-at (λ x. eqb x 64 || (eqb x 65 || same u (usesOf x))) 50 206 kind t h k))
+pub uses-past : (u : Uses) (kind : ℕ) → every (λ x. pair x || same u (usesOf x)) 50 206 ≡ true → 50 ≤ kind → kind < 256 → (kind ≡ 64 → ⊥) → (kind ≡ 65 → ⊥) → u ≡ usesOf kind
+uses-past u kind t h k a b =
+    same-eq u (usesOf kind)
+    (other (pair kind) (same u (usesOf kind)) (rw (ne-eqb kind 64 a, ne-eqb kind 65 b)) (every-at (λ x. pair x || same u (usesOf x)) 50 206 kind t h k))

@@ -1,3 +1,6 @@
-pub mod Range
+pub mod Every
 pub mod Bytes
 pub mod Runs
+pub mod Blocks
+pub mod Script
+pub mod Cut

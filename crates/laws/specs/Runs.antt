@@ -1,11 +1,11 @@
 -- Runs of stores, one behind the other.
 use mathlib.Core.Path.{_≡_, refl, sym, ap, _∙_}
-use mathlib.Core.List.{List, [], _∷_, _++_, append-nil}
+use mathlib.Core.List.{List, [], _∷_, _++_, append-nil, append-assoc}
 use Prim.Native.Nat.{ℕ, suc, _+_, _≤_}
 use native.Mathlib.Nat.{add-zero, add-suc, suc-add}
 use native.Mathlib.Omega.{arith}
-use lib.ListN.{length, set, drop-of-length-le}
-use lib.Seq.{sets, sets-eq}
+use lib.ListN.{length, set, take, drop, length-append, drop-of-length-le}
+use lib.Seq.{sets, sets-eq, take-at, drop-at, drop-drop, length-take-le}
 
 pub sets-append : (a b l : List ℕ) (i : ℕ) → sets (sets l i a) (i + length a) b ≡ sets l i (a ++ b)
 sets-append [] b l i = ap (λ (k : ℕ). sets l k b) (add-zero i)
@@ -35,3 +35,20 @@ sets-whole l vs e =
     let z : 0 + length vs ≡ length vs = omega arith in
     let k : length l ≤ length vs = omega arith in
     sets-eq vs l 0 h ∙ rw (z, drop-of-length-le l k) (append-nil vs)
+
+module _ (l vs : List ℕ) (i : ℕ) (room : i + length vs ≤ length l) where
+  pub sets-split : sets l i vs ≡ (take i l ++ vs) ++ drop (i + length vs) l
+  sets-split = sets-eq vs l i room
+
+  front : length (take i l ++ vs) ≡ i + length vs
+  front = length-append (take i l) vs ∙ ap (λ (n : ℕ). n + length vs) (length-take-le i l (omega arith))
+
+  pub take-sets : take (i + length vs) (sets l i vs) ≡ take i l ++ vs
+  take-sets = ap (take (i + length vs)) sets-split ∙ take-at (take i l ++ vs) (drop (i + length vs) l) (i + length vs) front
+
+  pub drop-sets : drop (i + length vs) (sets l i vs) ≡ drop (i + length vs) l
+  drop-sets = ap (drop (i + length vs)) sets-split ∙ drop-at (take i l ++ vs) (drop (i + length vs) l) (i + length vs) front
+
+  -- what a part lent from i on leaves, once the part holds vs
+  pub lent-part : (n : ℕ) → length vs ≡ n → take i l ++ (vs ++ drop n (drop i l)) ≡ sets l i vs
+  lent-part n e = sym (sets-split ∙ append-assoc (take i l) vs (drop (i + length vs) l) ∙ ap (λ (x : List ℕ). take i l ++ (vs ++ x)) (sym (drop-drop (length vs) i l) ∙ ap (λ (k : ℕ). drop k (drop i l)) e))

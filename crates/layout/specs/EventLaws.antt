@@ -1,6 +1,6 @@
 -- An event laid down reads back as itself, and what reads as an event is what laying that event down gives.
 use mathlib.Core.Path.{_≡_, refl, sym, ap, ap₂, _∙_}
-use mathlib.Core.Bool.{Bool, true, false, cond, _&&_, and-eq-true-iff}
+use mathlib.Core.Bool.{Bool, true, false, cond, _&&_}
 use mathlib.Core.List.{List, [], _∷_, _++_}
 use Prim.Native.Nat.{ℕ, _+_, _<_, _≤_}
 use native.Mathlib.Omega.{arith}
@@ -8,6 +8,7 @@ use lib.ListN.{length, getD, take, drop}
 use lib.Seq.{take-all}
 use lib.Dec.{leb, eqb, lit≤}
 use borrow.Author.Tests.{eqb-true, eqb-false, leb-true}
+use Rattle.laws.specs.Every.{never, both}
 use Rattle.laws.specs.Bytes.{le, unle, wordAt, Bytes, unle-le, le-part, joined, four-at}
 use Rattle.layout.specs.Head.{headBytes}
 use Rattle.layout.specs.Event.{bit, doubleBytes, eventBytes, eventOf, spareZero, readEvent}
@@ -94,14 +95,14 @@ module _ (l : List ℕ) (bytes : Bytes l) (long : length l ≡ 64) where
     head : headBytes (getD l 0 0) (bit (eqb (getD l 1 0) 1)) (getD l 2 0) ≡ take 4 l
     unfolding spareZero
     head =
-        let s = and-eq-true-iff (leb (getD l 1 0) 1 && eqb (getD l 3 0) 0) (eqb (wordAt 4 l 12) 0) .0 spare .0 in
-        let t = and-eq-true-iff (leb (getD l 1 0) 1) (eqb (getD l 3 0) 0) .0 s in
+        let s = both (leb (getD l 1 0) 1 && eqb (getD l 3 0) 0) (eqb (wordAt 4 l 12) 0) spare .0 in
+        let t = both (leb (getD l 1 0) 1) (eqb (getD l 3 0) 0) s in
         sym (four-at l 0 (omega arith) ∙ rw (byte-bit (getD l 1 0) (t .0), eqb-true (getD l 3 0) 0 (t .1)))
 
     unused : le 4 0 ≡ take 4 (drop 12 l)
     unfolding spareZero
     unused =
-        let s = and-eq-true-iff (leb (getD l 1 0) 1 && eqb (getD l 3 0) 0) (eqb (wordAt 4 l 12) 0) .0 spare .1 in
+        let s = both (leb (getD l 1 0) 1 && eqb (getD l 3 0) 0) (eqb (wordAt 4 l 12) 0) spare .1 in
         ap (le 4) (sym (eqb-true (wordAt 4 l 12) 0 s)) ∙ number 4 12 (lit≤ tt)
 
     fields-forth : eventBytes (eventOf l) ≡ l

@@ -1,15 +1,15 @@
 -- A geometry laid down reads back as itself, and what reads as a geometry is what laying that geometry down gives.
 use mathlib.Core.Path.{_≡_, refl, sym, ap, ap₂, _∙_}
-use mathlib.Core.Bool.{Bool, true, false, cond, _&&_, _||_, and-eq-true-iff}
+use mathlib.Core.Bool.{Bool, true, false, cond, _&&_, _||_}
 use mathlib.Core.List.{List, [], _∷_, _++_}
 use Prim.Native.Nat.{ℕ, _+_, _*_, _/_, _%_, _<_, _≤_, zero-le}
 use native.Mathlib.Omega.{arith}
 use native.Mathlib.Nat.{mul-zero, mul-one}
 use lib.ListN.{length, getD, take, drop}
 use lib.Seq.{take-all}
-use lib.Dec.{ltb, eqb, eqb→eq, lit≤}
+use lib.Dec.{ltb, eqb, lit≤}
 use borrow.Author.Tests.{eq-eqb, ne-eqb, eqb-true, eqb-false, lt-ltb, ltb-true}
-use Rattle.laws.specs.Range.{every-at}
+use Rattle.laws.specs.Every.{both, every-at}
 use Rattle.laws.specs.Bytes.{le, unle, wordAt, Bytes, unle-le, le-part, joined, four-at}
 use Rattle.layout.specs.Head.{headBytes}
 use Rattle.layout.specs.Geometry.{shown, presentOf, startOf, countOf, spanBytes, geometryBytes, spanIf, present, spanAt, geometryOf, absentZero, soundGeometry, readGeometry}
@@ -135,7 +135,7 @@ abbrev sum-of-bits : ℕ → ℕ
 sum-of-bits p = 1 * (p / 1 % 2) + 2 * (p / 2 % 2) + 4 * (p / 4 % 2) + 8 * (p / 8 % 2) + 16 * (p / 16 % 2) + 32 * (p / 32 % 2) + 64 * (p / 64 % 2)
 
 binary : (p : ℕ) → p < 128 → sum-of-bits p ≡ p
-binary p h = eqb→eq (sum-of-bits p) p (every-at (λ n. eqb (sum-of-bits n) n) 0 128 p tt zero-le (omega arith))
+binary p h = eqb-true (sum-of-bits p) p (every-at (λ n. eqb (sum-of-bits n) n) 0 128 p refl zero-le (omega arith))
 
 present-forth : (l : List ℕ) → getD l 1 0 < 128 → presentOf (geometryOf l) ≡ getD l 1 0
 unfolding presentOf geometryOf
@@ -155,7 +155,7 @@ module _ (l : List ℕ) (bytes : Bytes l) (long : length l ≡ 64) where
           → spanBytes (spanIf b (wordAt 4 l i) (wordAt 4 l (i + 4))) ≡ le 4 (wordAt 4 l i) ++ le 4 (wordAt 4 l (i + 4))
       pair true e = refl
       pair false e =
-          let z = and-eq-true-iff (eqb (wordAt 4 l i) 0) (eqb (wordAt 4 l (i + 4)) 0) .0 e in
+          let z = both (eqb (wordAt 4 l i) 0) (eqb (wordAt 4 l (i + 4)) 0) e in
           rw (eqb-true (wordAt 4 l i) 0 (z .0), eqb-true (wordAt 4 l (i + 4)) 0 (z .1))
 
   module _ (sound : soundGeometry l ≡ true) where
@@ -175,16 +175,16 @@ module _ (l : List ℕ) (bytes : Bytes l) (long : length l ≡ 64) where
     said : Sound
     unfolding soundGeometry
     said =
-        let parts = and-eq-true-iff _ (absentZero l 64 52) .0 sound in
-        let tm = and-eq-true-iff _ (absentZero l 32 44) .0 (parts .0) in
-        let t = and-eq-true-iff _ (absentZero l 16 36) .0 (tm .0) in
-        let m = and-eq-true-iff _ (absentZero l 8 28) .0 (t .0) in
-        let z = and-eq-true-iff _ (absentZero l 4 20) .0 (m .0) in
-        let ends = and-eq-true-iff _ (absentZero l 2 12) .0 (z .0) in
-        let xy = and-eq-true-iff _ (absentZero l 1 4) .0 (ends .0) in
-        let small = and-eq-true-iff _ (ltb (getD l 1 0) 128) .0 (xy .0) in
-        let last = and-eq-true-iff _ (eqb (wordAt 4 l 60) 0) .0 (small .0) in
-        let spare = and-eq-true-iff (eqb (getD l 2 0) 0) (eqb (getD l 3 0) 0) .0 (last .0) in
+        let parts = both _ (absentZero l 64 52) sound in
+        let tm = both _ (absentZero l 32 44) (parts .0) in
+        let t = both _ (absentZero l 16 36) (tm .0) in
+        let m = both _ (absentZero l 8 28) (t .0) in
+        let z = both _ (absentZero l 4 20) (m .0) in
+        let ends = both _ (absentZero l 2 12) (z .0) in
+        let xy = both _ (absentZero l 1 4) (ends .0) in
+        let small = both _ (ltb (getD l 1 0) 128) (xy .0) in
+        let last = both _ (eqb (wordAt 4 l 60) 0) (small .0) in
+        let spare = both (eqb (getD l 2 0) 0) (eqb (getD l 3 0) 0) (last .0) in
         record {
           second = eqb-true _ 0 (spare .0);
           third = eqb-true _ 0 (spare .1);

@@ -1,0 +1,5 @@
+pub mod Box
+pub mod Doubles
+pub mod Laws
+pub mod Outcomes
+pub mod Pairs

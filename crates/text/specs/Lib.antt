@@ -1,0 +1,4 @@
+pub mod Utf8
+pub mod Laws
+pub mod Meaning
+pub mod Examples
