@@ -1,9 +1,11 @@
 -- 01, "Event, 64 bytes": the kinds of event, the fields that each uses, and the events that keep the rules.
 use mathlib.Core.Bool.{Bool, true, false, not, _&&_, _||_}
-use Prim.Native.Nat.{ℕ, _+_, _-_, _/_, _%_}
+use Prim.Native.Nat.{ℕ, _+_, _-_, _/_, _%_, _<_}
 use lib.Dec.{leb, ltb, eqb}
 use Rattle.kinds.specs.declared.event.Event.{Event}
 use Rattle.kinds.specs.declared.event.Uses.{Uses}
+use Rattle.kinds.specs.declared.event.Parsed.{Parsed}
+use Rattle.kinds.specs.declared.event.Parsed.the-variants.{WellFormed, Malformed}
 
 -- Types 0, 13 and 14 have no events.
 abbrev pub hasEvents : ℕ → Bool
@@ -65,6 +67,22 @@ wellFormed e =
     && (bitSet (e .present) 2 || eqb (e .m) 0)
     && (bitSet (e .present) 4 || eqb (e .t) 0)
     && (bitSet (e .present) 8 || eqb (e .tm) 0)
+
+-- the paper's number for each case: done, or 11
+abbrev pub parsedNumber : Parsed → ℕ
+parsedNumber (WellFormed e) = 0
+parsedNumber Malformed = 11
+
+-- what every value of the type keeps
+pub record EventSized (e : Event) : Type 0 where
+  pub size : e .size < 4294967296
+  pub idx : e .idx < 4294967296
+  pub x : e .x < 18446744073709551616
+  pub y : e .y < 18446744073709551616
+  pub z : e .z < 18446744073709551616
+  pub m : e .m < 18446744073709551616
+  pub t : e .t < 18446744073709551616
+  pub tm : e .tm < 18446744073709551616
 
 -- ---- the constructors' events
 unfoldable pub beginE : ℕ → Bool → ℕ → ℕ → Event

@@ -1,2 +1,4 @@
 pub mod Event
 pub mod EventLaws
+pub mod Geometry
+pub mod Lanes

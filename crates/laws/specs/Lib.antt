@@ -1,3 +1,4 @@
+pub mod Branch
 pub mod Every
 pub mod Bytes
 pub mod Runs

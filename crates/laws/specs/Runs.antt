@@ -1,7 +1,7 @@
 -- Runs of stores, one behind the other.
 use mathlib.Core.Path.{_≡_, refl, sym, ap, _∙_}
 use mathlib.Core.List.{List, [], _∷_, _++_, append-nil, append-assoc}
-use Prim.Native.Nat.{ℕ, suc, _+_, _≤_}
+use Prim.Native.Nat.{ℕ, suc, _+_, _-_, _≤_}
 use native.Mathlib.Nat.{add-zero, add-suc, suc-add}
 use native.Mathlib.Omega.{arith}
 use lib.ListN.{length, set, take, drop, length-append, drop-of-length-le}
@@ -49,6 +49,8 @@ module _ (l vs : List ℕ) (i : ℕ) (room : i + length vs ≤ length l) where
   pub drop-sets : drop (i + length vs) (sets l i vs) ≡ drop (i + length vs) l
   drop-sets = ap (drop (i + length vs)) sets-split ∙ drop-at (take i l ++ vs) (drop (i + length vs) l) (i + length vs) front
 
-  -- what a part lent from i on leaves, once the part holds vs
-  pub lent-part : (n : ℕ) → length vs ≡ n → take i l ++ (vs ++ drop n (drop i l)) ≡ sets l i vs
-  lent-part n e = sym (sets-split ∙ append-assoc (take i l) vs (drop (i + length vs) l) ∙ ap (λ (x : List ℕ). take i l ++ (vs ++ x)) (sym (drop-drop (length vs) i l) ∙ ap (λ (k : ℕ). drop k (drop i l)) e))
+  -- what a part lent from i up to `end` leaves, once the part holds vs
+  pub lent-part : (end : ℕ) → end ≡ i + length vs → take i l ++ (vs ++ drop (end - i) (drop i l)) ≡ sets l i vs
+  lent-part end e =
+      let n : end - i ≡ length vs = omega arith in
+      sym (sets-split ∙ append-assoc (take i l) vs (drop (i + length vs) l) ∙ rw (n, ← (drop-drop (length vs) i l)))

@@ -7,7 +7,8 @@ use lib.ListN.{length}
 use lib.Seq.{sets}
 use lib.Dec.{ltb}
 use native.Mathlib.Omega.{arith}
-use borrow.Author.Tests.{lt-ltb, le-ltb}
+use borrow.Author.Tests.{ltb-true}
+use Rattle.laws.specs.Every.{both}
 
 -- records to write, and the number at the end, 0 for done
 pub data Script (A : Type 0) : Type 0 where
@@ -38,6 +39,12 @@ pub record Format (A : Type 0) : Type 0 where
 -- a log has 1,048,576 usable records; a remainder under one record is not used
 unfoldable pub roomAt : ℕ → List ℕ → ℕ → Bool
 roomAt wide L n = ltb n 1048576 && ltb n (length L / wide)
+
+pub room-in : (wide : ℕ) (L : List ℕ) (n : ℕ) → roomAt wide L n ≡ true → (n < 1048576) × (n < length L / wide)
+unfolding roomAt
+room-in wide L n h =
+    let t = both (ltb n 1048576) (ltb n (length L / wide)) h in
+    (ltb-true n 1048576 (t .0), ltb-true n (length L / wide) (t .1))
 
 module _ {A : Type 0} (F : Format A) where
   unfoldable pub put : List ℕ → ℕ → A → List ℕ

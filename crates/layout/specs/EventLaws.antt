@@ -15,18 +15,7 @@ use Rattle.layout.specs.Event.{bit, doubleBytes, eventBytes, eventOf, sp
 use Rattle.kinds.specs.declared.event.Event.{Event}
 use Rattle.kinds.specs.declared.event.Parsed.{Parsed}
 use Rattle.kinds.specs.declared.event.Parsed.the-variants.{WellFormed, Malformed}
-use Rattle.kinds.specs.Event.{wellFormed}
-
--- what every value of the type keeps
-pub record Sized (e : Event) : Type 0 where
-  pub size : e .size < 4294967296
-  pub idx : e .idx < 4294967296
-  pub x : e .x < 18446744073709551616
-  pub y : e .y < 18446744073709551616
-  pub z : e .z < 18446744073709551616
-  pub m : e .m < 18446744073709551616
-  pub t : e .t < 18446744073709551616
-  pub tm : e .tm < 18446744073709551616
+use Rattle.kinds.specs.Event.{wellFormed, EventSized}
 
 pub event-length : (e : Event) → length (eventBytes e) ≡ 64
 unfolding eventBytes
@@ -37,7 +26,7 @@ bit-back : (b : Bool) → eqb (bit b) 1 ≡ b
 bit-back true = refl
 bit-back false = refl
 
-fields-back : (e : Event) → Sized e → eventOf (eventBytes e) ≡ e
+fields-back : (e : Event) → EventSized e → eventOf (eventBytes e) ≡ e
 unfolding eventBytes eventOf
 fields-back e h =
     λ i. record {
@@ -62,7 +51,7 @@ spare-back : (e : Event) → spareZero (eventBytes e) ≡ true
 unfolding eventBytes spareZero
 spare-back e = rw (bit-small (e .tagged))
 
-pub event-back : (e : Event) → Sized e → wellFormed e ≡ true → readEvent (eventBytes e) ≡ WellFormed e
+pub event-back : (e : Event) → EventSized e → wellFormed e ≡ true → readEvent (eventBytes e) ≡ WellFormed e
 unfolding readEvent
 event-back e h w = rw (event-length e, spare-back e, fields-back e h, w)
 

@@ -7,6 +7,7 @@ use lib.Dec.{ltb, eqb}
 use Rattle.laws.specs.Bytes.{le, wordAt}
 use Rattle.layout.specs.Head.{headBytes}
 use Rattle.kinds.specs.Event.{bitSet}
+use Rattle.kinds.specs.Geometry.{startOf, countOf}
 use Rattle.kinds.specs.declared.geometry.Geometry.{Geometry}
 use Rattle.kinds.specs.declared.geometry.Span.{Span}
 use Rattle.kinds.specs.declared.geometry.Span.the-variants.{Absent, Stretch}
@@ -22,14 +23,6 @@ unfoldable pub presentOf : Geometry → ℕ
 presentOf g = shown (g .xy) 1 + shown (g .ends) 2 + shown (g .z) 4 + shown (g .m) 8 + shown (g .t) 16 + shown (g .tm) 32 + shown (g .parts) 64
 
 -- an absent list has start and count 0
-abbrev pub startOf : Span → ℕ
-startOf Absent = 0
-startOf (Stretch start count) = start
-
-abbrev pub countOf : Span → ℕ
-countOf Absent = 0
-countOf (Stretch start count) = count
-
 abbrev pub spanBytes : Span → List ℕ
 spanBytes s = le 4 (startOf s) ++ le 4 (countOf s)
 

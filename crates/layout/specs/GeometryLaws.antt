@@ -12,26 +12,13 @@ use borrow.Author.Tests.{eq-eqb, ne-eqb, eqb-true, eqb-false, lt-ltb, ltb-true}
 use Rattle.laws.specs.Every.{both, every-at}
 use Rattle.laws.specs.Bytes.{le, unle, wordAt, Bytes, unle-le, le-part, joined, four-at}
 use Rattle.layout.specs.Head.{headBytes}
-use Rattle.layout.specs.Geometry.{shown, presentOf, startOf, countOf, spanBytes, geometryBytes, spanIf, present, spanAt, geometryOf, absentZero, soundGeometry, readGeometry}
+use Rattle.layout.specs.Geometry.{shown, presentOf, spanBytes, geometryBytes, spanIf, present, spanAt, geometryOf, absentZero, soundGeometry, readGeometry}
+use Rattle.kinds.specs.Geometry.{startOf, countOf, SpanSized, GeometrySized}
 use Rattle.kinds.specs.declared.geometry.Geometry.{Geometry}
 use Rattle.kinds.specs.declared.geometry.Span.{Span}
 use Rattle.kinds.specs.declared.geometry.Span.the-variants.{Absent, Stretch}
 use Rattle.kinds.specs.declared.geometry.Judged.{Judged}
 use Rattle.kinds.specs.declared.geometry.Judged.the-variants.{Good, Bad}
-
--- what every value of the type keeps
-pub record SpanSized (s : Span) : Type 0 where
-  pub start : startOf s < 4294967296
-  pub count : countOf s < 4294967296
-
-pub record Sized (g : Geometry) : Type 0 where
-  pub xy : SpanSized (g .xy)
-  pub ends : SpanSized (g .ends)
-  pub z : SpanSized (g .z)
-  pub m : SpanSized (g .m)
-  pub t : SpanSized (g .t)
-  pub tm : SpanSized (g .tm)
-  pub parts : SpanSized (g .parts)
 
 pub geometry-length : (g : Geometry) → length (geometryBytes g) ≡ 64
 unfolding geometryBytes
@@ -81,7 +68,7 @@ back : (s : Span) (b : Bool) (x y : ℕ) → b ≡ there s → x ≡ startOf s �
 back Absent b x y e f g = (rw e, rw (e, f, g))
 back (Stretch start count) b x y e f g = (rw (e, f, g), rw e)
 
-module _ (g : Geometry) (sized : Sized g) where
+module _ (g : Geometry) (sized : GeometrySized g) where
   span-back : (s : Span) → SpanSized s → (x : ℕ) → x ≡ one s
       → (spanIf (eqb x 1) (unle (le 4 (startOf s))) (unle (le 4 (countOf s))) ≡ s)
       × ((eqb x 1 || (eqb (unle (le 4 (startOf s))) 0 && eqb (unle (le 4 (countOf s))) 0)) ≡ true)

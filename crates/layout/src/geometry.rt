@@ -10,7 +10,8 @@ ghost use mathlib.Core.Path.{_≡_};
 ghost use Prim.Native.Nat.{_+_, _≤_, _<_};
 ghost use lib.ListN.{length};
 ghost use lib.Seq.{sets};
-ghost use Rattle.layout.specs.Geometry.{presentOf, shown, startOf, countOf, spanBytes, geometryBytes, spanAt, absentZero, soundGeometry, geometryOf, readGeometry};
+ghost use Rattle.kinds.specs.Geometry.{startOf, countOf};
+ghost use Rattle.layout.specs.Geometry.{presentOf, shown, spanBytes, geometryBytes, spanAt, absentZero, soundGeometry, geometryOf, readGeometry};
 
 fn start_of(s: Span) -> u32
     ensures { λ r. ⌜ r ≡ startOf s ⌝ }

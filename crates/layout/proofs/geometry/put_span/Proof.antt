@@ -1,4 +1,4 @@
-use Rattle.layout.specs.Geometry.{startOf, countOf}
+use Rattle.kinds.specs.Geometry.{startOf, countOf}
 use Rattle.laws.specs.Bytes.{le}
 use denote.Ref.{now}
 use Rattle.laws.specs.Runs.{then}

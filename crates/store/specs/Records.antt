@@ -1,0 +1,56 @@
+-- 01, "Records" and "Usable room": geometry records by number, and which are bad.
+use mathlib.Core.Bool.{Bool, true, false, cond, not, _&&_}
+use mathlib.Core.List.{List}
+use Prim.Native.Nat.{ℕ, _+_, _*_, _/_, _%_}
+use lib.ListN.{length}
+use lib.Seq.{sets}
+use lib.Dec.{leb, ltb, eqb}
+use Rattle.laws.specs.Blocks.{block}
+use Rattle.layout.specs.Geometry.{geometryBytes, readGeometry}
+use Rattle.kinds.specs.Lanes.{usable, spanIn, lentIn, everyLane}
+use Rattle.kinds.specs.declared.geometry.Geometry.{Geometry}
+use Rattle.kinds.specs.declared.geometry.Lent.{Lent}
+use Rattle.kinds.specs.declared.geometry.Span.{Span}
+use Rattle.kinds.specs.declared.geometry.Span.the-variants.{Absent, Stretch}
+use Rattle.kinds.specs.declared.geometry.Judged.{Judged}
+use Rattle.kinds.specs.declared.geometry.Judged.the-variants.{Good, Bad}
+
+-- how many whole records a table has
+abbrev pub recordsLent : List ℕ → ℕ
+recordsLent T = length T / 64
+
+-- A geometry table is bad if its length is no whole number of records or it has none.
+abbrev pub tableGood : List ℕ → Bool
+tableGood T = eqb (length T % 64) 0 && not (eqb (recordsLent T) 0)
+
+-- A record is bad if its number is past the table or 4,095,
+unfoldable pub hasRecord : List ℕ → ℕ → Bool
+hasRecord T n = tableGood T && ltb n (recordsLent T) && ltb n 4096
+
+-- a spare byte or present bit 128 is set, an absent list has a start or count (the layout says so of a record's own bytes),
+unfoldable pub recordIn : List ℕ → ℕ → Judged
+recordIn T n = readGeometry (block 64 T n)
+
+-- a list passes its pool's lent or usable end,
+abbrev pub inPool : Span → ℕ → ℕ → Bool
+inPool Absent lent most = true
+inPool (Stretch start count) lent most = leb (start + count) lent && leb (start + count) most
+
+-- or parts start at or below the record or pass the table's.
+abbrev pub inTable : Span → ℕ → ℕ → Bool
+inTable Absent n lent = true
+inTable (Stretch start count) n lent = ltb n start && leb (start + count) lent && leb (start + count) 4096
+
+unfoldable pub listsIn : Geometry → Lent → ℕ → ℕ → Bool
+listsIn g pools n lent = everyLane (λ k. inPool (spanIn g k) (lentIn pools k) (usable k)) && inTable (g .parts) n lent
+
+abbrev pub judged : Judged → Lent → ℕ → ℕ → Judged
+judged Bad pools n lent = Bad
+judged (Good g) pools n lent = cond (listsIn g pools n lent) (Good g) Bad
+
+unfoldable pub recordAt : List ℕ → Lent → ℕ → Judged
+recordAt T pools n = cond (hasRecord T n) (judged (recordIn T n) pools n (recordsLent T)) Bad
+
+-- ---- a record put down
+unfoldable pub putRecord : List ℕ → ℕ → Geometry → List ℕ
+putRecord T n g = sets T (64 * n) (geometryBytes g)

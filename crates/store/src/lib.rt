@@ -1,0 +1,9 @@
+// The store: geometry records in a lent table, lists in lent pools, events in a lent log. No layout shows above it.
+mod log;
+mod records;
+
+pub use log::hear;
+pub use log::say;
+pub use records::put_record;
+pub use records::record_at;
+pub use records::records_lent;
