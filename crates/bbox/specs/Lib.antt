@@ -1,5 +1,6 @@
 pub mod Box
 pub mod Doubles
+pub mod Geometry
 pub mod Laws
 pub mod Outcomes
 pub mod Pairs

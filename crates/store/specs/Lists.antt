@@ -23,6 +23,9 @@ pub record Pools : Type 0 where
   pub t : List ℕ
   pub tm : List ℕ
 
+abbrev pub poolsOf : List ℕ → List ℕ → List ℕ → List ℕ → List ℕ → List ℕ → Pools
+poolsOf xy ends z m t tm = record { xy = xy; ends = ends; z = z; m = m; t = t; tm = tm }
+
 abbrev pub lentOf : Pools → Lent
 lentOf P = record { xy = length (P .xy); ends = length (P .ends); z = length (P .z); m = length (P .m); t = length (P .t); tm = length (P .tm) }
 
