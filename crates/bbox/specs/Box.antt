@@ -1,7 +1,7 @@
 -- A box is four doubles: least x, least y, greatest x, greatest y.
-use Prim.Native.Nat.{ℕ}
 use mathlib.Core.Bool.{Bool, cond, true, false}
 use mathlib.Core.List.{List, [], _∷_}
+use Prim.Native.Nat.{ℕ}
 use lib.Ieee.{Float, inf, binary64, ofBits, toBits, lt}
 use Rattle.bbox.specs.declared.Box.{Box}
 

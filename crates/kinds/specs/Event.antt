@@ -1,5 +1,5 @@
 -- 01, "Event, 64 bytes": the kinds of event, the fields that each uses, and the events that keep the rules.
-use mathlib.Core.Bool.{Bool, true, false, not, _&&_, _||_}
+use mathlib.Core.Bool.{Bool, false, not, _&&_, _||_}
 use Prim.Native.Nat.{ℕ, _+_, _-_, _/_, _%_, _<_}
 use lib.Dec.{leb, ltb, eqb}
 use Rattle.kinds.specs.declared.event.Event.{Event}

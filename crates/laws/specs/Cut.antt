@@ -7,11 +7,11 @@ use native.Mathlib.Omega.{arith}
 use native.Mathlib.Numerals.{add-one}
 use native.Mathlib.Nat.{le-div-iff-mul-le, mul-comm, mul-suc, mul-add, mul-zero}
 use lib.ListN.{length, take, drop, take-append-drop, length-take}
-use lib.Seq.{sets, take-nil, length-sets, drop-drop}
+use lib.Seq.{take-nil, length-sets, drop-drop}
 use lib.Dec.{ltb, leb, leb·zero, leb·suc-zero, leb·suc-suc}
 use borrow.Author.Tests.{lt-ltb, le-ltb, ltb-true}
 use Rattle.laws.specs.Runs.{take-sets, drop-sets}
-use Rattle.laws.specs.Script.{Script, stop, say, Out, out, Format, roomAt, put, run}
+use Rattle.laws.specs.Script.{Script, stop, say, out, Format, roomAt, put, run}
 
 module _ {A : Type 0} where
   -- the records that a script says, and its number

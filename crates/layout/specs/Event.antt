@@ -1,15 +1,15 @@
 -- 01, "Event, 64 bytes": 0 kind; 1 tagged; 2 present bits; 3 spare; 4 size u32; 8 idx u32; 12 to 15 spare; then eight bytes each at 16 x, 24 y, 32 z, 40 m, 48 t, 56 tm.
 use mathlib.Core.Bool.{Bool, cond, _&&_}
-use mathlib.Core.List.{List, [], _∷_, _++_}
+use mathlib.Core.List.{List, _++_}
 use Prim.Native.Nat.{ℕ}
 use lib.ListN.{length, getD}
 use lib.Dec.{leb, eqb}
 use Rattle.laws.specs.Bytes.{le, wordAt}
-use Rattle.layout.specs.Head.{headBytes}
 use Rattle.kinds.specs.declared.event.Event.{Event}
 use Rattle.kinds.specs.declared.event.Parsed.{Parsed}
 use Rattle.kinds.specs.declared.event.Parsed.the-variants.{WellFormed, Malformed}
 use Rattle.kinds.specs.Event.{wellFormed}
+use Rattle.layout.specs.Head.{headBytes}
 
 abbrev pub bit : Bool → ℕ
 bit on = cond on 1 0

@@ -1,21 +1,20 @@
 -- An event laid down reads back as itself, and what reads as an event is what laying that event down gives.
-use mathlib.Core.Path.{_≡_, refl, sym, ap, ap₂, _∙_}
+use mathlib.Core.Path.{_≡_, refl, sym, ap, _∙_}
 use mathlib.Core.Bool.{Bool, true, false, cond, _&&_}
-use mathlib.Core.List.{List, [], _∷_, _++_}
-use Prim.Native.Nat.{ℕ, _+_, _<_, _≤_}
+use mathlib.Core.List.{List}
+use Prim.Native.Nat.{ℕ, _+_, _≤_}
 use native.Mathlib.Omega.{arith}
 use lib.ListN.{length, getD, take, drop}
 use lib.Seq.{take-all}
 use lib.Dec.{leb, eqb, lit≤}
 use borrow.Author.Tests.{eqb-true, eqb-false, leb-true}
-use Rattle.laws.specs.Every.{never, both}
-use Rattle.laws.specs.Bytes.{le, unle, wordAt, Bytes, unle-le, le-part, joined, four-at}
-use Rattle.layout.specs.Head.{headBytes}
-use Rattle.layout.specs.Event.{bit, doubleBytes, eventBytes, eventOf, spareZero, readEvent}
+use Rattle.laws.specs.Every.{both}
+use Rattle.laws.specs.Bytes.{le, wordAt, Bytes, unle-le, le-part, joined, four-at}
 use Rattle.kinds.specs.declared.event.Event.{Event}
-use Rattle.kinds.specs.declared.event.Parsed.{Parsed}
 use Rattle.kinds.specs.declared.event.Parsed.the-variants.{WellFormed, Malformed}
 use Rattle.kinds.specs.Event.{wellFormed, EventSized}
+use Rattle.layout.specs.Head.{headBytes}
+use Rattle.layout.specs.Event.{bit, doubleBytes, eventBytes, eventOf, spareZero, readEvent}
 
 pub event-length : (e : Event) → length (eventBytes e) ≡ 64
 unfolding eventBytes

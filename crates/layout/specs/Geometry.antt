@@ -1,11 +1,10 @@
 -- 01, "Geometry, 64 bytes": 0 type; 1 present bits (xy 1, ends 2, z 4, m 8, t 16, tm 32, parts 64); 2, 3 spare; from 4, seven pairs of u32 (start, count) in that order; 60 to 63 spare.
 use mathlib.Core.Bool.{Bool, cond, true, false, _&&_, _||_}
-use mathlib.Core.List.{List, [], _∷_, _++_}
+use mathlib.Core.List.{List, _++_}
 use Prim.Native.Nat.{ℕ, _+_}
 use lib.ListN.{length, getD}
 use lib.Dec.{ltb, eqb}
 use Rattle.laws.specs.Bytes.{le, wordAt}
-use Rattle.layout.specs.Head.{headBytes}
 use Rattle.kinds.specs.Event.{bitSet}
 use Rattle.kinds.specs.Geometry.{startOf, countOf}
 use Rattle.kinds.specs.declared.geometry.Geometry.{Geometry}
@@ -13,6 +12,7 @@ use Rattle.kinds.specs.declared.geometry.Span.{Span}
 use Rattle.kinds.specs.declared.geometry.Span.the-variants.{Absent, Stretch}
 use Rattle.kinds.specs.declared.geometry.Judged.{Judged}
 use Rattle.kinds.specs.declared.geometry.Judged.the-variants.{Good, Bad}
+use Rattle.layout.specs.Head.{headBytes}
 
 -- ---- laid down
 abbrev pub shown : Span → ℕ → ℕ

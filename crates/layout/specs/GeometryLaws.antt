@@ -1,7 +1,7 @@
 -- A geometry laid down reads back as itself, and what reads as a geometry is what laying that geometry down gives.
-use mathlib.Core.Path.{_≡_, refl, sym, ap, ap₂, _∙_}
+use mathlib.Core.Path.{_≡_, refl, sym, ap, _∙_}
 use mathlib.Core.Bool.{Bool, true, false, cond, _&&_, _||_}
-use mathlib.Core.List.{List, [], _∷_, _++_}
+use mathlib.Core.List.{List, _++_}
 use Prim.Native.Nat.{ℕ, _+_, _*_, _/_, _%_, _<_, _≤_, zero-le}
 use native.Mathlib.Omega.{arith}
 use native.Mathlib.Nat.{mul-zero, mul-one}
@@ -11,14 +11,13 @@ use lib.Dec.{ltb, eqb, lit≤}
 use borrow.Author.Tests.{eq-eqb, ne-eqb, eqb-true, eqb-false, lt-ltb, ltb-true}
 use Rattle.laws.specs.Every.{both, every-at}
 use Rattle.laws.specs.Bytes.{le, unle, wordAt, Bytes, unle-le, le-part, joined, four-at}
-use Rattle.layout.specs.Head.{headBytes}
-use Rattle.layout.specs.Geometry.{shown, presentOf, spanBytes, geometryBytes, spanIf, present, spanAt, geometryOf, absentZero, soundGeometry, readGeometry}
 use Rattle.kinds.specs.Geometry.{startOf, countOf, SpanSized, GeometrySized}
 use Rattle.kinds.specs.declared.geometry.Geometry.{Geometry}
 use Rattle.kinds.specs.declared.geometry.Span.{Span}
 use Rattle.kinds.specs.declared.geometry.Span.the-variants.{Absent, Stretch}
-use Rattle.kinds.specs.declared.geometry.Judged.{Judged}
 use Rattle.kinds.specs.declared.geometry.Judged.the-variants.{Good, Bad}
+use Rattle.layout.specs.Head.{headBytes}
+use Rattle.layout.specs.Geometry.{shown, presentOf, spanBytes, geometryBytes, spanIf, present, spanAt, geometryOf, absentZero, soundGeometry, readGeometry}
 
 pub geometry-length : (g : Geometry) → length (geometryBytes g) ≡ 64
 unfolding geometryBytes

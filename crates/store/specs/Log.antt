@@ -6,7 +6,7 @@ use Prim.Native.Nat.{ℕ}
 use lib.Dec.{lit<}
 use Rattle.laws.specs.Script.{Format}
 use Rattle.layout.specs.Event.{eventBytes, readEvent}
-use Rattle.layout.specs.EventLaws.{event-length, event-back, event-forth, Reads}
+use Rattle.layout.specs.EventLaws.{event-length, event-back, event-forth}
 use Rattle.laws.specs.Bytes.{Bytes}
 use Rattle.kinds.specs.Event.{wellFormed, EventSized}
 use Rattle.kinds.specs.declared.event.Event.{Event}

@@ -1,15 +1,15 @@
 -- What the floors above may know of records.
-use mathlib.Core.Path.{_≡_, refl, sym, ap, _∙_}
-use mathlib.Core.Bool.{Bool, true, false, cond, not, _&&_}
+use mathlib.Core.Path.{_≡_, refl, ap, _∙_}
+use mathlib.Core.Bool.{Bool, true, false, cond, _&&_}
 use mathlib.Core.List.{List}
-use Prim.Native.Nat.{ℕ, _+_, _*_, _/_, _%_, _<_, _≤_}
+use Prim.Native.Nat.{ℕ, _+_, _*_, _<_, _≤_}
 use native.Mathlib.Omega.{arith}
 use lib.ListN.{length}
-use lib.Seq.{sets, length-sets}
-use lib.Dec.{leb, ltb, eqb}
+use lib.Seq.{length-sets}
+use lib.Dec.{leb, ltb}
 use borrow.Author.Tests.{leb-true, ltb-true}
 use Rattle.laws.specs.Every.{never, both}
-use Rattle.laws.specs.Blocks.{block, block-same, block-other}
+use Rattle.laws.specs.Blocks.{block-same, block-other}
 use Rattle.layout.specs.Geometry.{geometryBytes, readGeometry}
 use Rattle.layout.specs.GeometryLaws.{geometry-length, geometry-back}
 use Rattle.kinds.specs.Geometry.{GeometrySized}

@@ -1,16 +1,15 @@
 -- What is computed is what is meant: the first bad place is the one where the text ends, and a list is UTF-8 exactly when it is a text.
-use Prim.Native.Nat.{ℕ, zero, suc, _+_, _-_, _≤_, _<_, zero-le}
 use mathlib.Core.Path.{_≡_, refl, sym, _∙_, ap}
 use mathlib.Core.Bool.{Bool, true, false, cond}
 use mathlib.Core.List.{List, [], _∷_, _++_, append-assoc, append-nil, List·Memᴰ, List·Memᴰ·head, List·Memᴰ·tail}
+use Prim.Native.Nat.{ℕ, zero, suc, _+_, _-_, _≤_, _<_, zero-le}
 use native.Mathlib.Omega.{arith}
 use lib.Dec.{leb, eqb}
 use lib.ListN.{length, take, drop, length-append, length-drop, take-append-drop}
 use lib.Seq.{take-add, drop-drop, take-length, length-take-le, drop-append-seam}
 use borrow.Author.Tests.{leb-true, le-leb, eqb-true, eqb-false, eq-eqb, ne-eqb}
-use Rattle.text.specs.Utf8.{_‥_, Row, rows, Fits, Fits.end, Fits.byte, Character, Text, Text.empty, Text.more, NoCharacter, TextEnds}
-use Rattle.text.specs.Utf8.{has, opens, find, rowOf, begins, charLength, run, firstBad, isUtf8}
 use Rattle.laws.specs.Every.{never, both, every, every-at, each-at}
+use Rattle.text.specs.Utf8.{_‥_, Row, rows, Fits, Fits.end, Fits.byte, Character, Text, Text.empty, Text.more, NoCharacter, TextEnds, has, opens, find, rowOf, begins, charLength, run, firstBad, isUtf8}
 use Rattle.text.specs.Laws.{sameRow, same-row, char-within, bad-here, bad-later}
 
 -- A first byte is in one row only, and no row is empty.

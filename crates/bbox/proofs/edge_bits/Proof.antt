@@ -1,6 +1,6 @@
 use mathlib.Core.Path.{sym, ap}
-use borrow.Author.Needs.{needs}
 use lib.Ieee.{toBits}
+use borrow.Author.Needs.{needs}
 use Rattle.bbox.specs.Box.{bitsOf}
 use Rattle.bbox.specs.Doubles.{self-number, self-nan}
 use Rattle.bbox.proofs.edge_bits.Statement.{statement}

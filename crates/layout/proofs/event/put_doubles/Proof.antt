@@ -1,46 +1,24 @@
-use Rattle.laws.specs.Bytes.{le}
-use denote.Ref.{now}
-use Rattle.laws.specs.Runs.{then, sets-whole}
 use mathlib.Core.List.{_++_}
-use mathlib.Core.Path.{_≡_, refl, sym, ap, _∙_}
+use mathlib.Core.Path.{refl}
+use denote.Ref.{now}
 use borrow.Author.Needs.{needs}
+use Rattle.laws.specs.Bytes.{le}
+use Rattle.laws.specs.Runs.{then}
 use Rattle.layout.proofs.event.put_doubles.Statement.{statement}
 use Rattle.layout.proofs.event.put_doubles.Tie as tie
-use Rattle.layout.proofs.event.put_doubles.Reads as reads
-use Rattle.layout.proofs.event.put_doubles.Lts as lts
-use Rattle.layout.proofs.words.put_u64.Reads as put-u64-reads
 
--- src/event.rt:20:5
-put-u64-requires : tie.Need-put-u64-requires
-put-u64-requires c κs = search needs
-
--- src/event.rt:21:5
-put-u64-requires-2 : tie.Need-put-u64-requires-2
-put-u64-requires-2 c κs = search needs
-
--- src/event.rt:22:5
-put-u64-requires-3 : tie.Need-put-u64-requires-3
-put-u64-requires-3 c κs = search needs
-
--- src/event.rt:23:5
-put-u64-requires-4 : tie.Need-put-u64-requires-4
-put-u64-requires-4 c κs = search needs
-
--- src/event.rt:24:5
-put-u64-requires-5 : tie.Need-put-u64-requires-5
-put-u64-requires-5 c κs = search needs
-
--- src/event.rt:25:5
-put-u64-requires-6 : tie.Need-put-u64-requires-6
-put-u64-requires-6 c κs = search needs
-
--- src/event.rt:16:1
-same-length : tie.Need-same-length
-same-length c = search needs
-
--- src/event.rt:16:1
-returns : tie.Need-returns
-returns c = let sixth = c .before .before in
+pub put-doubles-spec : {M : Type 1} → statement M
+put-doubles-spec =
+    tie.close
+    (tie.spec
+    (λ c κs. search needs)
+    (λ c κs. search needs)
+    (λ c κs. search needs)
+    (λ c κs. search needs)
+    (λ c κs. search needs)
+    (λ c κs. search needs)
+    (λ c. search needs)
+    (λ c. let sixth = c .before .before in
     let fifth = sixth .before .before .before .before in
     let fourth = fifth .before .before .before .before in
     let third = fourth .before .before .before .before in
@@ -62,17 +40,4 @@ returns c = let sixth = c .before .before in
     refl (third .put-u643 .ensures))
     refl (fourth .put-u644 .ensures))
     refl (fifth .put-u645 .ensures))
-    refl (sixth .put-u646 .ensures)
-
-pub put-doubles-spec : {M : Type 1} → statement M
-put-doubles-spec =
-    tie.close
-    (tie.spec
-    put-u64-requires
-    put-u64-requires-2
-    put-u64-requires-3
-    put-u64-requires-4
-    put-u64-requires-5
-    put-u64-requires-6
-    same-length
-    returns)
+    refl (sixth .put-u646 .ensures)))
