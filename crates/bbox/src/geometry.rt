@@ -8,7 +8,8 @@ use kinds::refusal;
 ghost use mathlib.Core.Path.{_≡_};
 ghost use lib.ListN.{length};
 ghost use Rattle.store.specs.RecordLaws.{InPool};
-ghost use Rattle.store.specs.Lists.{listOf, poolsOf, recordWith};
+ghost use Rattle.store.specs.Records.{recordAt};
+ghost use Rattle.store.specs.Lists.{lentOf, listOf, poolsOf};
 ghost use Rattle.bbox.specs.Geometry.{boxOfList, boxedOf};
 
 pub struct Boxed {
@@ -41,7 +42,8 @@ pub fn box_at(
     tm: &[u64],
     n: usize,
 ) -> Boxed
-    ensures { λ r. ⌜ r ≡ boxedOf (recordWith (now (table .entry)) (poolsOf (now (xy .entry)) (now (ends .entry)) (now (z .entry)) (now (m .entry)) (now (t .entry)) (now (tm .entry))) n) ⌝ }
+    ensures { λ r. let P = poolsOf (now (xy .entry)) (now (ends .entry)) (now (z .entry)) (now (m .entry)) (now (t .entry)) (now (tm .entry)) in
+        ⌜ r ≡ boxedOf P (recordAt (now (table .entry)) (lentOf P) n) ⌝ }
 {
     let lent = Lent {
         xy: xy.len(),

@@ -1,7 +1,6 @@
 use mathlib.Core.Path.{sym, _∙_}
 use denote.Ref.{now}
 use borrow.Author.Needs.{needs}
-use Rattle.store.specs.Lists.{poolsOf, with-good, with-bad}
 use Rattle.store.specs.RecordLaws.{within}
 use Rattle.kinds.specs.Lanes.{xyL}
 use Rattle.bbox.proofs.geometry.box_at.Statement.{statement}
@@ -17,9 +16,5 @@ box-at-spec =
     (λ c. search needs)
     (λ c κs. let a = c .before .before .before .before .before .before .before .before .before .before .before .args in
     within (now (a .table)) _ (a .n) _ (sym (c .before .before .before .record-at .ensures) ∙ c .before .g .given .1) .lists xyL)
-    (λ c. let a = c .before .before .before .before .before .before .before .before .before .before .before .args in
-    let P = poolsOf (now (a .xy)) (now (a .ends)) (now (a .z)) (now (a .m)) (now (a .t)) (now (a .tm)) in
-    rw (with-bad (now (a .table)) P (a .n) (sym (c .before .before .before .record-at .ensures) ∙ c .before .enum-told .given .1), c .empty .ensures))
-    (λ c. let a = c .before .before .before .before .before .before .before .before .before .before .before .before .args in
-    let P = poolsOf (now (a .xy)) (now (a .ends)) (now (a .z)) (now (a .m)) (now (a .t)) (now (a .tm)) in
-    rw (with-good (now (a .table)) P (a .n) _ (sym (c .before .before .before .before .record-at .ensures) ∙ c .before .before .g .given .1), c .box-of-span .ensures)))
+    (λ c. rw (sym (c .before .before .before .record-at .ensures) ∙ c .before .enum-told .given .1, c .empty .ensures))
+    (λ c. rw (sym (c .before .before .before .before .record-at .ensures) ∙ c .before .before .g .given .1, c .box-of-span .ensures)))
