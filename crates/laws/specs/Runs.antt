@@ -4,8 +4,8 @@ use mathlib.Core.List.{List, [], _∷_, _++_, append-nil, append-assoc}
 use Prim.Native.Nat.{ℕ, suc, _+_, _-_, _≤_}
 use native.Mathlib.Nat.{add-zero, add-suc, suc-add}
 use native.Mathlib.Omega.{arith}
-use lib.ListN.{length, set, take, drop, length-append, drop-of-length-le}
-use lib.Seq.{sets, sets-eq, take-at, drop-at, drop-drop, length-take-le}
+use lib.ListN.{length, set, take, drop, length-append, length-drop, drop-of-length-le}
+use lib.Seq.{sets, sets-eq, take-at, drop-at, drop-drop, length-take-le, take-all}
 
 pub sets-append : (a b l : List ℕ) (i : ℕ) → sets (sets l i a) (i + length a) b ≡ sets l i (a ++ b)
 sets-append [] b l i = ap (λ (k : ℕ). sets l k b) (add-zero i)
@@ -54,3 +54,14 @@ module _ (l vs : List ℕ) (i : ℕ) (room : i + length vs ≤ length l) where
   lent-part end e =
       let n : end - i ≡ length vs = omega arith in
       sym (sets-split ∙ append-assoc (take i l) vs (drop (i + length vs) l) ∙ rw (n, ← (drop-drop (length vs) i l)))
+
+-- a tail that was lent, once a run of stores went to its start: what `&mut l[i..]` leaves
+pub lent-tail : (l vs written : List ℕ) (i : ℕ) → i + length vs ≤ length l → written ≡ sets (take (length l - i) (drop i l)) 0 vs →
+    take i l ++ (written ++ drop (length l - i) (drop i l)) ≡ sets l i vs
+lent-tail l vs written i room e =
+    let n : length (drop i l) ≡ length l - i = length-drop i l in
+    let short : length (drop i l) ≤ length l - i = omega arith in
+    let within : 0 + length vs ≤ length (drop i l) = omega arith in
+    let start : 0 + length vs ≡ length vs = omega arith in
+    rw (e, take-all (length l - i) (drop i l) short, drop-of-length-le (drop i l) short, append-nil, sets-split (drop i l) vs 0 within, start, drop-drop)
+    (sym (sets-split l vs i room ∙ append-assoc (take i l) vs (drop (i + length vs) l)))

@@ -1,0 +1,9 @@
+pub mod Column
+pub mod ColumnLaws
+pub mod Writing
+pub mod WritingLaws
+pub mod Reading
+pub mod ReadingLaws
+pub mod ReadingSteps
+pub mod RoundTrip
+pub mod Examples
