@@ -1,0 +1,31 @@
+use mathlib.Core.Path.{_≡_}
+use lib.ListN.{length}
+use borrow.Author.Needs.{needs}
+use Rattle.property_cases.proofs.run_list.Statement.{statement}
+use Rattle.property_cases.proofs.run_list.Tie as tie
+
+abbrev Inv-loop : tie.InvT-loop
+Inv-loop frame₀ memory₀ tally₀ turns₀ frame memory tally turns =
+    (length frame ≡ length frame₀) × (length memory ≡ length memory₀)
+
+abbrev μ-loop : tie.MeasureT-loop
+μ-loop frame₀ memory₀ tally₀ turns₀ frame memory tally turns = turns
+
+pub run-list-spec : {M : Type 1} → statement M
+run-list-spec =
+    tie.close
+    (tie.spec
+    Inv-loop
+    μ-loop
+    (λ c κs. search needs)
+    (λ c. search needs)
+    (λ c κs. search needs)
+    (λ c. search needs)
+    (λ c. search needs)
+    (λ c. search needs)
+    (λ c. search needs)
+    (λ c. search needs)
+    (λ c. search needs)
+    (λ c. search needs)
+    (λ c. search needs)
+    (λ c. search needs))
