@@ -2,3 +2,4 @@ pub mod Event
 pub mod EventLaws
 pub mod Geometry
 pub mod Lanes
+pub mod LaneLaws

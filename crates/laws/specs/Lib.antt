@@ -1,7 +1,9 @@
 pub mod Branch
+pub mod Cond
 pub mod Every
 pub mod Bytes
 pub mod Runs
 pub mod Blocks
 pub mod Script
 pub mod Cut
+pub mod Framed

@@ -4,16 +4,17 @@ use mathlib.Core.Bool.{Bool, true, false, cond, _&&_}
 use mathlib.Core.List.{List}
 use Prim.Native.Nat.{ℕ, _+_, _*_, _<_, _≤_}
 use native.Mathlib.Omega.{arith}
-use lib.ListN.{length}
+use lib.ListN.{length, drop, length-take, length-drop}
 use lib.Seq.{length-sets}
-use lib.Dec.{leb, ltb}
-use borrow.Author.Tests.{leb-true, ltb-true}
+use lib.Dec.{leb, ltb, eqb}
+use borrow.Author.Tests.{leb-true, ltb-true, eqb-true}
 use Rattle.laws.specs.Every.{never, both}
-use Rattle.laws.specs.Blocks.{block-same, block-other}
-use Rattle.layout.specs.Geometry.{geometryBytes, readGeometry}
+use Rattle.laws.specs.Blocks.{block, block-same, block-other}
+use Rattle.layout.specs.Geometry.{geometryBytes, geometryOf, soundGeometry, readGeometry}
 use Rattle.layout.specs.GeometryLaws.{geometry-length, geometry-back}
 use Rattle.kinds.specs.Geometry.{GeometrySized}
-use Rattle.kinds.specs.Lanes.{Lane, xyL, endsL, zL, mL, tL, tmL, usable, spanIn, lentIn, everyLane}
+use Rattle.kinds.specs.LaneLaws.{lane-of-every}
+use Rattle.kinds.specs.Lanes.{Lane, usable, spanIn, lentIn, everyLane}
 use Rattle.kinds.specs.declared.geometry.Geometry.{Geometry}
 use Rattle.kinds.specs.declared.geometry.Lent.{Lent}
 use Rattle.kinds.specs.declared.geometry.Span.{Span}
@@ -59,15 +60,6 @@ table-bounds (Stretch start count) n lent h =
     let u = both (ltb n start) (leb (start + count) lent) (t .0) in
     (ltb-true n start (u .0), leb-true (start + count) lent (u .1), leb-true (start + count) 4096 (t .1))
 
-every-lane : (f : Lane → Bool) → everyLane f ≡ true → (k : Lane) → f k ≡ true
-every-lane f h =
-    let tm = both _ (f tmL) h in
-    let t = both _ (f tL) (tm .0) in
-    let m = both _ (f mL) (t .0) in
-    let z = both _ (f zL) (m .0) in
-    let ends = both (f xyL) (f endsL) (z .0) in
-    λ k. elim k [ xyL ↦ ends .0 | endsL ↦ ends .1 | zL ↦ z .1 | mL ↦ m .1 | tL ↦ t .1 | tmL ↦ tm .1 ]
-
 pub record Within (T : List ℕ) (pools : Lent) (n : ℕ) (g : Geometry) : Type 0 where
   pub lent : n < recordsLent T
   pub usable-number : n < 4096
@@ -88,7 +80,7 @@ within T pools n g h = by-number (hasRecord T n) refl h
           lent = room .0;
           usable-number = room .1;
           read = rw same at r;
-          lists = λ k. pool-bounds (spanIn g k) (lentIn pools k) (usable k) (every-lane (λ k. inPool (spanIn g k) (lentIn pools k) (usable k)) (a .0) k);
+          lists = λ k. pool-bounds (spanIn g k) (lentIn pools k) (usable k) (lane-of-every (λ k. inPool (spanIn g k) (lentIn pools k) (usable k)) (a .0) k);
           parts = table-bounds (g .parts) n (recordsLent T) (a .1);
         }
     by-lists false f l r e h = absurd (never (cc))
@@ -100,6 +92,17 @@ within T pools n g h = by-number (hasRecord T n) refl h
     by-number : (b : Bool) → hasRecord T n ≡ b → cond b (judged (recordIn T n) pools n (recordsLent T)) Bad ≡ Good g → Within T pools n g
     by-number true e h = by-record (recordIn T n) refl e h
     by-number false e h = absurd (never (cc))
+
+-- a record that reads good is in the table
+pub good-lent : (T : List ℕ) (n : ℕ) (g : Geometry) → recordIn T n ≡ Good g → n < recordsLent T
+unfolding recordIn readGeometry
+good-lent T n g h = go (eqb (length (block 64 T n)) 64 && soundGeometry (block 64 T n)) refl h
+  where
+    go : (b : Bool) → (eqb (length (block 64 T n)) 64 && soundGeometry (block 64 T n)) ≡ b → cond b (Good (geometryOf (block 64 T n))) Bad ≡ Good g → n < recordsLent T
+    go true t h =
+        let e = eqb-true (length (block 64 T n)) 64 (both (eqb (length (block 64 T n)) 64) (soundGeometry (block 64 T n)) t .0) in
+        omega (arith, e, length-take 64 (drop (64 * n) T), length-drop (64 * n) T)
+    go false t h = absurd (never (cc))
 
 -- ---- putting record n down leaves every other record as it was
 pub put-length : (T : List ℕ) (n : ℕ) (g : Geometry) → length (putRecord T n g) ≡ length T
