@@ -1,0 +1,366 @@
+// Lines of a record: a stretch from each end to the next, or the whole list as one; and what is made of lines.
+use crate::coords::Frame;
+use crate::coords::Window;
+use crate::coords::between;
+use crate::coords::read_window;
+use crate::pairs::Seen;
+use kinds::answer::Answer;
+use kinds::event::Event;
+use kinds::geometry_type;
+use kinds::refusal;
+ghost use mathlib.Core.Path.{_≡_};
+ghost use mathlib.Core.Bool.{cond, not, _&&_};
+ghost use Prim.Native.Nat.{_≤_, _<_};
+ghost use lib.Dec.{leb};
+ghost use lib.ListN.{length};
+ghost use Rattle.laws.specs.Script.{out, run};
+ghost use Rattle.store.specs.Log.{events};
+ghost use Rattle.lines.specs.Seen.{coordsIn};
+ghost use Rattle.lines.specs.Lines.{badEnd, stretchS, linesS, flatS, ringsS, stretchesS, multiLineS, triangleAt, trianglesS, triangleS, tinS};
+
+fn bad_end(before: u32, end: u32) -> bool
+    ensures { λ r. ⌜ r ≡ badEnd before end ⌝ }
+{
+    (end < before) | (2147483648 <= end)
+}
+
+// How many stretches so many ends make.
+fn stretches(ends: usize) -> u32
+    requires { ⌜ ends ≤ 65536 ⌝ }
+    ensures { λ r. ⌜ r ≡ cond (leb ends 1) 1 ends ⌝ }
+{
+    if ends <= 1 { 1 } else { ends as u32 }
+}
+
+// Whether a MultiLineString or a Triangle has nothing to say: no list to be its one stretch.
+fn nothing_there(there: bool, ends: usize) -> bool
+    ensures { λ r. ⌜ r ≡ (not there && leb ends 1) ⌝ }
+{
+    !there & (ends <= 1)
+}
+
+// The line from pair `before` to pair `end`.
+fn read_multilinestring_part(
+    log: &mut [u8],
+    count: usize,
+    xy: &[u64],
+    z: &[u64],
+    m: &[u64],
+    t: &[u64],
+    tm: &[u64],
+    seen: Seen,
+    before: u32,
+    end: u32,
+    idx: u32,
+) -> Answer
+    requires { ⌜ length (now xy) ≤ 131072 ⌝ }
+    ensures { λ r. ⌜ run events (stretchS (coordsIn seen (now (xy .entry)) (now (z .entry)) (now (m .entry)) (now (t .entry)) (now (tm .entry))) before end idx) (now (log .entry)) count ≡ out (r .number) (r .count) (now (log .exit)) ⌝ }
+{
+    if bad_end(before, end) {
+        return Answer {
+            number: refusal::BAD_END,
+            count,
+        };
+    }
+    let w = between(seen.xy, xy.len(), before, end);
+    let f = Frame {
+        kind: geometry_type::LINE_STRING,
+        tagged: false,
+        size: end - before,
+        idx,
+    };
+    read_window(log, count, xy, z, m, t, tm, seen, w, f)
+}
+
+fn read_lines(
+    log: &mut [u8],
+    count: usize,
+    xy: &[u64],
+    ends: &[u32],
+    z: &[u64],
+    m: &[u64],
+    t: &[u64],
+    tm: &[u64],
+    seen: Seen,
+) -> Answer
+    requires { ⌜ (length (now xy) ≤ 131072) × (length (now ends) ≤ 65536) ⌝ }
+    ensures { λ r. ⌜ run events (linesS (coordsIn seen (now (xy .entry)) (now (z .entry)) (now (m .entry)) (now (t .entry)) (now (tm .entry))) (now (ends .entry)) 0 0) (now (log .entry)) count ≡ out (r .number) (r .count) (now (log .exit)) ⌝ }
+{
+    let mut said = count;
+    let mut before: u32 = 0;
+    let mut i: usize = 0;
+    while i < ends.len() {
+        let end = ends[i];
+        let r = read_multilinestring_part(log, said, xy, z, m, t, tm, seen, before, end, i as u32);
+        if r.number != refusal::DONE {
+            return r;
+        }
+        said = r.count;
+        before = end;
+        i += 1;
+    }
+    Answer {
+        number: refusal::DONE,
+        count: said,
+    }
+}
+
+// The whole list as one line: a LineString, a MultiPoint, a CircularString, a ring.
+pub fn read_line(
+    log: &mut [u8],
+    count: usize,
+    xy: &[u64],
+    z: &[u64],
+    m: &[u64],
+    t: &[u64],
+    tm: &[u64],
+    seen: Seen,
+    kind: u8,
+    tagged: bool,
+    idx: u32,
+) -> Answer
+    requires { ⌜ (length (now xy) ≤ 131072) × (kind < 32) ⌝ }
+    ensures { λ r. ⌜ run events (flatS (coordsIn seen (now (xy .entry)) (now (z .entry)) (now (m .entry)) (now (t .entry)) (now (tm .entry))) kind tagged idx) (now (log .entry)) count ≡ out (r .number) (r .count) (now (log .exit)) ⌝ }
+{
+    if !seen.xy {
+        return Answer {
+            number: refusal::XY_ABSENT,
+            count,
+        };
+    }
+    let w = Window {
+        from: 0,
+        start: 0,
+        end: xy.len(),
+        last: refusal::DONE,
+    };
+    let f = Frame {
+        kind,
+        tagged,
+        size: (xy.len() / 2) as u32,
+        idx,
+    };
+    read_window(log, count, xy, z, m, t, tm, seen, w, f)
+}
+
+// The lines of a Polygon or a MultiLineString: with 0 or 1 ends the whole list is one.
+fn read_rings(
+    log: &mut [u8],
+    count: usize,
+    xy: &[u64],
+    ends: &[u32],
+    z: &[u64],
+    m: &[u64],
+    t: &[u64],
+    tm: &[u64],
+    seen: Seen,
+) -> Answer
+    requires { ⌜ (length (now xy) ≤ 131072) × (length (now ends) ≤ 65536) ⌝ }
+    ensures { λ r. ⌜ run events (ringsS (coordsIn seen (now (xy .entry)) (now (z .entry)) (now (m .entry)) (now (t .entry)) (now (tm .entry))) (now (ends .entry))) (now (log .entry)) count ≡ out (r .number) (r .count) (now (log .exit)) ⌝ }
+{
+    if ends.len() <= 1 {
+        read_line(
+            log,
+            count,
+            xy,
+            z,
+            m,
+            t,
+            tm,
+            seen,
+            geometry_type::LINE_STRING,
+            false,
+            0,
+        )
+    } else {
+        read_lines(log, count, xy, ends, z, m, t, tm, seen)
+    }
+}
+
+// read_polygon, and whatever else is a begin, lines and an end.
+pub fn read_stretches(
+    log: &mut [u8],
+    count: usize,
+    xy: &[u64],
+    ends: &[u32],
+    z: &[u64],
+    m: &[u64],
+    t: &[u64],
+    tm: &[u64],
+    seen: Seen,
+    kind: u8,
+    tagged: bool,
+    idx: u32,
+) -> Answer
+    requires { ⌜ (length (now xy) ≤ 131072) × (length (now ends) ≤ 65536) × (kind < 32) ⌝ }
+    ensures { λ r. ⌜ run events (stretchesS kind tagged idx (coordsIn seen (now (xy .entry)) (now (z .entry)) (now (m .entry)) (now (t .entry)) (now (tm .entry))) (now (ends .entry))) (now (log .entry)) count ≡ out (r .number) (r .count) (now (log .exit)) ⌝ }
+{
+    let size = stretches(ends.len());
+    let b = store::say(log, count, Event::begin(kind, tagged, size, idx));
+    if b.number != refusal::DONE {
+        return b;
+    }
+    let r = read_rings(log, b.count, xy, ends, z, m, t, tm, seen);
+    if r.number != refusal::DONE {
+        return r;
+    }
+    store::say(log, r.count, Event::end(kind, tagged, idx))
+}
+
+pub fn read_multilinestring(
+    log: &mut [u8],
+    count: usize,
+    xy: &[u64],
+    ends: &[u32],
+    z: &[u64],
+    m: &[u64],
+    t: &[u64],
+    tm: &[u64],
+    seen: Seen,
+    idx: u32,
+) -> Answer
+    requires { ⌜ (length (now xy) ≤ 131072) × (length (now ends) ≤ 65536) ⌝ }
+    ensures { λ r. ⌜ run events (multiLineS (coordsIn seen (now (xy .entry)) (now (z .entry)) (now (m .entry)) (now (t .entry)) (now (tm .entry))) (now (ends .entry)) idx) (now (log .entry)) count ≡ out (r .number) (r .count) (now (log .exit)) ⌝ }
+{
+    if nothing_there(seen.xy, ends.len()) {
+        return Answer {
+            number: refusal::DONE,
+            count,
+        };
+    }
+    let kind = geometry_type::MULTI_LINE_STRING;
+    read_stretches(log, count, xy, ends, z, m, t, tm, seen, kind, false, idx)
+}
+
+// The triangle between two ends of a list of them.
+fn read_triangle_at(
+    log: &mut [u8],
+    count: usize,
+    xy: &[u64],
+    z: &[u64],
+    m: &[u64],
+    t: &[u64],
+    tm: &[u64],
+    seen: Seen,
+    tagged: bool,
+    before: u32,
+    end: u32,
+    idx: u32,
+) -> Answer
+    requires { ⌜ length (now xy) ≤ 131072 ⌝ }
+    ensures { λ r. ⌜ run events (triangleAt (coordsIn seen (now (xy .entry)) (now (z .entry)) (now (m .entry)) (now (t .entry)) (now (tm .entry))) tagged before end idx) (now (log .entry)) count ≡ out (r .number) (r .count) (now (log .exit)) ⌝ }
+{
+    let b = store::say(
+        log,
+        count,
+        Event::begin(geometry_type::TRIANGLE, tagged, 1, idx),
+    );
+    if b.number != refusal::DONE {
+        return b;
+    }
+    let r = read_multilinestring_part(log, b.count, xy, z, m, t, tm, seen, before, end, 0);
+    if r.number != refusal::DONE {
+        return r;
+    }
+    store::say(
+        log,
+        r.count,
+        Event::end(geometry_type::TRIANGLE, tagged, idx),
+    )
+}
+
+fn read_triangles(
+    log: &mut [u8],
+    count: usize,
+    xy: &[u64],
+    ends: &[u32],
+    z: &[u64],
+    m: &[u64],
+    t: &[u64],
+    tm: &[u64],
+    seen: Seen,
+    tagged: bool,
+) -> Answer
+    requires { ⌜ (length (now xy) ≤ 131072) × (length (now ends) ≤ 65536) ⌝ }
+    ensures { λ r. ⌜ run events (trianglesS (coordsIn seen (now (xy .entry)) (now (z .entry)) (now (m .entry)) (now (t .entry)) (now (tm .entry))) (now (ends .entry)) tagged 0 0) (now (log .entry)) count ≡ out (r .number) (r .count) (now (log .exit)) ⌝ }
+{
+    let mut said = count;
+    let mut before: u32 = 0;
+    let mut i: usize = 0;
+    while i < ends.len() {
+        let end = ends[i];
+        let idx = i as u32;
+        let r = read_triangle_at(log, said, xy, z, m, t, tm, seen, tagged, before, end, idx);
+        if r.number != refusal::DONE {
+            return r;
+        }
+        said = r.count;
+        before = end;
+        i += 1;
+    }
+    Answer {
+        number: refusal::DONE,
+        count: said,
+    }
+}
+
+pub fn read_triangle(
+    log: &mut [u8],
+    count: usize,
+    xy: &[u64],
+    ends: &[u32],
+    z: &[u64],
+    m: &[u64],
+    t: &[u64],
+    tm: &[u64],
+    seen: Seen,
+    tagged: bool,
+    idx: u32,
+) -> Answer
+    requires { ⌜ (length (now xy) ≤ 131072) × (length (now ends) ≤ 65536) ⌝ }
+    ensures { λ r. ⌜ run events (triangleS (coordsIn seen (now (xy .entry)) (now (z .entry)) (now (m .entry)) (now (t .entry)) (now (tm .entry))) (now (ends .entry)) tagged idx) (now (log .entry)) count ≡ out (r .number) (r .count) (now (log .exit)) ⌝ }
+{
+    if nothing_there(seen.xy, ends.len()) {
+        return Answer {
+            number: refusal::DONE,
+            count,
+        };
+    }
+    if ends.len() <= 1 {
+        let kind = geometry_type::TRIANGLE;
+        read_stretches(log, count, xy, ends, z, m, t, tm, seen, kind, tagged, idx)
+    } else {
+        read_triangles(log, count, xy, ends, z, m, t, tm, seen, tagged)
+    }
+}
+
+pub fn read_tin(
+    log: &mut [u8],
+    count: usize,
+    xy: &[u64],
+    ends: &[u32],
+    z: &[u64],
+    m: &[u64],
+    t: &[u64],
+    tm: &[u64],
+    seen: Seen,
+    idx: u32,
+) -> Answer
+    requires { ⌜ (length (now xy) ≤ 131072) × (length (now ends) ≤ 65536) ⌝ }
+    ensures { λ r. ⌜ run events (tinS (coordsIn seen (now (xy .entry)) (now (z .entry)) (now (m .entry)) (now (t .entry)) (now (tm .entry))) (now (ends .entry)) idx) (now (log .entry)) count ≡ out (r .number) (r .count) (now (log .exit)) ⌝ }
+{
+    let size = stretches(ends.len());
+    let b = store::say(
+        log,
+        count,
+        Event::begin(geometry_type::TIN, false, size, idx),
+    );
+    if b.number != refusal::DONE {
+        return b;
+    }
+    let r = read_triangle(log, b.count, xy, ends, z, m, t, tm, seen, false, 0);
+    if r.number != refusal::DONE {
+        return r;
+    }
+    store::say(log, r.count, Event::end(geometry_type::TIN, false, idx))
+}

@@ -1,0 +1,93 @@
+-- What a test of room tells.
+use mathlib.Core.Path.{_≡_, refl, ap}
+use mathlib.Core.Bool.{Bool, true, false, cond, _&&_}
+use Prim.Native.Nat.{ℕ, _+_, _≤_}
+use native.Mathlib.Omega.{arith}
+use lib.Dec.{leb}
+use borrow.Author.Tests.{leb-true}
+use Rattle.laws.specs.Every.{both}
+use Rattle.kinds.specs.Lanes.{Lane, xyL, endsL, zL, mL, tL, tmL, usable, lentIn, everyLane}
+use Rattle.kinds.specs.declared.geometry.Lent.{Lent}
+use Rattle.writer.specs.declared.state.Pending.{Pending}
+use Rattle.writer.specs.declared.state.State.{State}
+use Rattle.writer.specs.declared.state.Wrote.{Wrote}
+use Rattle.writer.specs.declared.set_type.Typed.{Typed}
+use Rattle.writer.specs.declared.set_type.Typed.the-variants.{Set, Mixed}
+use Rattle.writer.specs.declared.ask.Added.{Added}
+use Rattle.writer.specs.declared.ask.Ask.{Ask}
+use Rattle.writer.specs.State.{wordsIn, used, recordsUsed, wrote}
+use Rattle.writer.specs.Calls.{more, roomIn, laneRoom, hasRoom, grownAll, recordsFor, roomOr, decideTyped, decideEvent, noWords, finished, renewed, decideFinish, decideNext}
+
+-- the pending words, with those that are added, stay within the usable
+abbrev pub Fits : Pending → Added → Type 0
+Fits p a = (n : Lane) → used (wordsIn p n) + more a n ≤ usable n
+
+pub record Room (p : Pending) (a : Added) (records lent : ℕ) (pools : Lent) : Type 0 where
+  pub table : records ≤ lent
+  pub records-fit : records ≤ 4096
+  pub words : (n : Lane) → used (wordsIn p n) + more a n ≤ lentIn pools n
+  pub fits : Fits p a
+
+lane-at : (f : Lane → Bool) → everyLane f ≡ true → (n : Lane) → f n ≡ true
+lane-at f h =
+    let tm = both _ (f tmL) h in
+    let t = both _ (f tL) (tm .0) in
+    let m = both _ (f mL) (t .0) in
+    let z = both _ (f zL) (m .0) in
+    let ends = both (f xyL) (f endsL) (z .0) in
+    λ n. elim n [ xyL ↦ ends .0 | endsL ↦ ends .1 | zL ↦ z .1 | mL ↦ m .1 | tL ↦ t .1 | tmL ↦ tm .1 ]
+
+room-in : (n lent most : ℕ) → roomIn n lent most ≡ true → (n ≤ lent) × (n ≤ most)
+room-in n lent most h = let t = both (leb n lent) (leb n most) h in (leb-true n lent (t .0), leb-true n most (t .1))
+
+pub room-of : (p : Pending) (a : Added) (records lent : ℕ) (pools : Lent) → hasRoom p a records lent pools ≡ true → Room p a records lent pools
+unfolding hasRoom
+room-of p a records lent pools h =
+    let t = both (roomIn records lent 4096) (everyLane (laneRoom p pools a)) h in
+    let r = room-in records lent 4096 (t .0) in
+    let lane : (n : Lane) → (used (wordsIn p n) + more a n ≤ lentIn pools n) × (used (wordsIn p n) + more a n ≤ usable n) = λ n. room-in (used (wordsIn p n) + more a n) (lentIn pools n) (usable n) (lane-at (laneRoom p pools a) (t .1) n) in
+    record { table = r .0; records-fit = r .1; words = λ n. lane n .0; fits = λ n. lane n .1 }
+
+-- what has grown within the usable stays within it
+pub grown-fits : (p : Pending) (a : Added) → Fits p a → Fits (grownAll p a) noWords
+unfolding grownAll
+grown-fits p a h xyL = omega (arith, h xyL)
+grown-fits p a h endsL = omega (arith, h endsL)
+grown-fits p a h zL = omega (arith, h zL)
+grown-fits p a h mL = omega (arith, h mL)
+grown-fits p a h tL = omega (arith, h tL)
+grown-fits p a h tmL = omega (arith, h tmL)
+
+-- ---- a call that is accepted was in its turn, and had room
+in-turn : (s : State) (b : Bool) (r : Wrote) → cond b (wrote 15 s) r .number ≡ 0 → r .number ≡ 0
+in-turn s true r h = absurd (omega arith)
+in-turn s false r h = h
+
+has-waited : (s : State) (b : Bool) (r : Wrote) → cond b r (wrote 15 s) .number ≡ 0 → r .number ≡ 0
+has-waited s true r h = h
+has-waited s false r h = absurd (omega arith)
+
+has-type : (s : State) (a : Ask) (room : Bool) (t : Typed) → decideTyped s a room t .number ≡ 0 → room ≡ true
+has-type s a room Mixed h = absurd (omega arith)
+has-type s a true (Set t) h = refl
+has-type s a false (Set t) h = absurd (omega arith)
+
+has-room : (s after : State) (room : Bool) → roomOr s room after .number ≡ 0 → room ≡ true
+has-room s after true h = refl
+has-room s after false h = absurd (omega arith)
+
+module _ (s : State) (lent : ℕ) (pools : Lent) where
+  pub event-accepted : (a : Ask) → decideEvent s a lent pools .number ≡ 0 → Room (s .pending) (a .added) (recordsFor s a) lent pools
+  unfolding decideEvent
+  event-accepted a h = room-of _ _ _ _ _ (has-type s a _ (a .typed) (in-turn s (s .waiting) _ h))
+
+  pub finish-accepted : decideFinish s lent pools .number ≡ 0 → Room (s .pending) noWords (s .parts + 1) lent pools
+  unfolding decideFinish
+  finish-accepted h = room-of _ _ _ _ _ (has-room s (finished s) _ (in-turn s (s .waiting) _ h))
+
+  pub next-accepted : decideNext s lent pools .number ≡ 0 → Room (s .pending) noWords (s .parts + 1) lent pools
+  unfolding decideNext
+  next-accepted h = room-of _ _ _ _ _ (has-room s (renewed s) _ (has-waited s (s .waiting) _ h))
+
+pub part-room : (s : State) (a : Ask) {lent : ℕ} {pools : Lent} → Room (s .pending) (a .added) (recordsFor s a) lent pools → a .part ≡ true → s .parts + 2 ≤ lent
+part-room s a room h = omega (arith, room .table, ap (λ (b : Bool). cond b (s .parts + 2) (recordsUsed s)) h)

@@ -1,0 +1,79 @@
+-- 01, "Writing": a writer's state by lane, the lent memory, and what the state uses of it.
+use mathlib.Core.Bool.{Bool, true, false, cond, not, _&&_, _||_}
+use mathlib.Core.List.{List}
+use Prim.Native.Nat.{ℕ, _+_}
+use lib.Dec.{leb, eqb}
+use Rattle.kinds.specs.Lanes.{Lane, xyL, endsL, zL, mL, tL, tmL}
+use Rattle.store.specs.Lists.{Pools, poolsOf}
+use Rattle.writer.specs.declared.state.Typing.{Typing}
+use Rattle.writer.specs.declared.state.Words.{Words}
+use Rattle.writer.specs.declared.state.Pending.{Pending}
+use Rattle.writer.specs.declared.state.State.{State}
+use Rattle.writer.specs.declared.state.Wrote.{Wrote}
+
+abbrev pub typing : ℕ → Bool → Bool → ℕ → ℕ → Typing
+typing declared detect promote current mode = record { declared = declared; detect = detect; promote = promote; current = current; mode = mode }
+
+abbrev pub words : ℕ → ℕ → Words
+words start count = record { start = start; count = count }
+
+-- ---- the pending words, by lane
+abbrev pub wordsIn : Pending → Lane → Words
+wordsIn p xyL = p .xy
+wordsIn p endsL = p .ends
+wordsIn p zL = p .z
+wordsIn p mL = p .m
+wordsIn p tL = p .t
+wordsIn p tmL = p .tm
+
+abbrev pub pendingOf : (Lane → Words) → Pending
+pendingOf f = record { xy = f xyL; ends = f endsL; z = f zL; m = f mL; t = f tL; tm = f tmL }
+
+abbrev pub stateOf : Typing → Bool → ℕ → ℕ → Pending → State
+stateOf h waiting parts properties pending = record { typing = h; waiting = waiting; parts = parts; properties = properties; pending = pending }
+
+-- ---- what a state uses: each pool up to its last pending word,
+abbrev pub used : Words → ℕ
+used p = p .start + p .count
+
+-- its parts at records 1 to n, and record 0 once a finished feature waits; with no part and nothing finished, no record
+abbrev pub recordsUsed : State → ℕ
+recordsUsed s = cond (s .waiting || not (eqb (s .parts) 0)) (s .parts + 1) 0
+
+-- ---- the lent memory
+abbrev pub poolIn : Pools → Lane → List ℕ
+poolIn P xyL = P .xy
+poolIn P endsL = P .ends
+poolIn P zL = P .z
+poolIn P mL = P .m
+poolIn P tL = P .t
+poolIn P tmL = P .tm
+
+abbrev pub poolsBy : (Lane → List ℕ) → Pools
+poolsBy f = poolsOf (f xyL) (f endsL) (f zL) (f mL) (f tL) (f tmL)
+
+pub record Mem : Type 0 where
+  pub table : List ℕ
+  pub pools : Pools
+
+abbrev pub memory : List ℕ → Pools → Mem
+memory table pools = record { table = table; pools = pools }
+
+-- the seven lent slices
+abbrev pub memOf : List ℕ → List ℕ → List ℕ → List ℕ → List ℕ → List ℕ → List ℕ → Mem
+memOf table xy ends z m t tm = memory table (poolsOf xy ends z m t tm)
+
+-- ---- what a call comes to: answer, state, and the final contents of all lent memory
+pub record Outcome : Type 0 where
+  pub wrote : Wrote
+  pub mem : Mem
+
+abbrev pub wrote : ℕ → State → Wrote
+wrote number s = record { number = number; state = s }
+
+abbrev pub outcome : Wrote → Mem → Outcome
+outcome r k = record { wrote = r; mem = k }
+
+-- a refusal changes nothing
+abbrev pub settled : Wrote → Mem → Mem → Outcome
+settled r k after = outcome r (cond (eqb (r .number) 0) after k)
