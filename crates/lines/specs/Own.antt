@@ -1,7 +1,6 @@
 -- A record's own lists, lent from the pools, and the walks over them by name.
 use mathlib.Core.Bool.{Bool, true, false, _&&_}
 use mathlib.Core.List.{List}
-use mathlib.Core.Option.{none}
 use Prim.Native.Nat.{ℕ, _<_}
 use lib.ListN.{take, drop}
 use Rattle.laws.specs.Script.{Script}

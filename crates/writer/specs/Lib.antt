@@ -5,3 +5,4 @@ pub mod Room
 pub mod Move
 pub mod Ends
 pub mod Refused
+pub mod Property

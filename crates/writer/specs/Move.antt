@@ -1,9 +1,9 @@
 -- The first i of the words from a start on, moved to the front, one after the other.
 use mathlib.Core.Path.{_≡_, sym, ap, _∙_}
 use mathlib.Core.List.{List, append-assoc}
-use Prim.Native.Nat.{ℕ, suc, _+_, _≤_, _<_}
+use Prim.Native.Nat.{ℕ, suc, _+_, _<_}
 use native.Mathlib.Omega.{arith}
-use lib.ListN.{length, take, drop, set, getD, length-append, length-drop}
+use lib.ListN.{length, take, drop, set, getD, length-drop}
 use lib.Seq.{set-at, take-suc, drop-cons, getD-append-add, getD-drop, length-take-le}
 use Rattle.writer.specs.Calls.{moved}
 

@@ -1,5 +1,5 @@
 -- The Rust's set_type, for every declared byte, detect, promote, mode and type. Mode 0 is Normal, 1 GeometryCollection, 2 ForceMulti.
-use mathlib.Core.Bool.{Bool, true, false, cond, not, _&&_, _||_}
+use mathlib.Core.Bool.{Bool, cond, not, _&&_, _||_}
 use Prim.Native.Nat.{ℕ, _+_}
 use lib.Dec.{eqb}
 use Rattle.writer.specs.declared.state.Typing.{Typing}

@@ -1,8 +1,8 @@
 -- 01, "Writing": a writer's state by lane, the lent memory, and what the state uses of it.
-use mathlib.Core.Bool.{Bool, true, false, cond, not, _&&_, _||_}
+use mathlib.Core.Bool.{Bool, cond, not, _||_}
 use mathlib.Core.List.{List}
 use Prim.Native.Nat.{ℕ, _+_}
-use lib.Dec.{leb, eqb}
+use lib.Dec.{eqb}
 use Rattle.kinds.specs.Lanes.{Lane, xyL, endsL, zL, mL, tL, tmL}
 use Rattle.store.specs.Lists.{Pools, poolsOf}
 use Rattle.writer.specs.declared.state.Typing.{Typing}

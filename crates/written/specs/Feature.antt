@@ -2,7 +2,7 @@
 use mathlib.Core.Path.{_≡_, refl, ap, _∙_}
 use mathlib.Core.Bool.{Bool, true, _&&_}
 use mathlib.Core.List.{List, _++_}
-use Prim.Native.Nat.{ℕ, _+_, _≤_}
+use Prim.Native.Nat.{ℕ}
 use lib.Dec.{eqb}
 use borrow.Author.Tests.{eqb-true}
 use Rattle.laws.specs.Every.{both}
@@ -68,16 +68,12 @@ module _ (s : State) (k : Mem) (w : Writer) (l : List ℕ) (es : List Event) (ok
   pub finish-reached : Reached (finished end) (finishedMem s k es) (finish (afterAll w es)) (l ++ pairsOf es)
   finish-reached = rw finished-is at (accepted left finishC (agrees-self end left) done (so-far .reached))
 
-  enough : end .parts + 1 ≤ recordsLent (finishedMem s k es .table)
-  unfolding finishCall
-  enough = rw (call-lengths end left finishC done .table) (took-finish end left done .has .table)
-
   -- the tree is read from the memory that finish leaves
   pub tree-left : tableGood (k .table) ≡ true → Holds (recordWith (finishedMem s k es .table) (finishedMem s k es .pools)) 0 (tree (afterAll w es))
   unfolding finished finish
   tree-left whole =
       let v : Writer = afterAll w es in
-      tree-read (finished end) (finishedMem s k es) (finish v) (row-stands finish-reached) (rootOver v (v .parts)) refl (whole-same k _ lengths whole) enough
+      tree-read (finished end) (finishedMem s k es) (finish v) (row-stands finish-reached) (rootOver v (v .parts)) refl (whole-same k _ lengths whole)
 
   -- and the next feature begins
   module _ (goes : decideNext (finished end) (recordsLent (k .table)) (lentOf (k .pools)) .number ≡ 0) where

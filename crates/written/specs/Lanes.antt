@@ -1,10 +1,9 @@
 -- What is made lane by lane, seen by lane.
 use mathlib.Core.Path.{_≡_, refl}
-use mathlib.Core.Bool.{Bool, true}
 use mathlib.Core.List.{List, []}
 use Prim.Native.Nat.{ℕ}
 use lib.ListN.{length}
-use Rattle.kinds.specs.Lanes.{Lane, xyL, endsL, zL, mL, tL, tmL, lentIn, everyLane}
+use Rattle.kinds.specs.Lanes.{Lane, xyL, endsL, zL, mL, tL, tmL, lentIn}
 use Rattle.store.specs.Lists.{Pools, lentOf}
 use Rattle.writer.specs.declared.state.Words.{Words}
 use Rattle.writer.specs.State.{wordsIn, pendingOf, poolIn, poolsBy}

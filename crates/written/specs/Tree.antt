@@ -1,7 +1,7 @@
 -- A finished tree, read off the memory: record 0 and the parts, as the lists have them.
 use mathlib.Core.Path.{_≡_, refl, ap, _∙_}
 use mathlib.Core.Bool.{true}
-use mathlib.Core.List.{List, _∷_}
+use mathlib.Core.List.{List, [], _∷_}
 use mathlib.Core.Option.{Option, some}
 use Prim.Native.Nat.{ℕ, _+_, _≤_, _<_}
 use native.Mathlib.Omega.{arith}
@@ -12,13 +12,13 @@ use Rattle.kinds.specs.declared.geometry.Span.{Span}
 use Rattle.kinds.specs.declared.geometry.Span.the-variants.{Absent, Stretch}
 use Rattle.store.specs.Lists.{Rec, lentOf, seen, recordWith, with-good}
 use Rattle.store.specs.Records.{recordsLent, tableGood, hasRecord, recordIn, inPool, inTable, listsIn}
-use Rattle.store.specs.RecordLaws.{InPool, InTable, record-is}
+use Rattle.store.specs.RecordLaws.{InPool, InTable, record-is, good-lent}
 use Rattle.writer.specs.declared.state.State.{State}
 use Rattle.writer.specs.State.{wordsIn, poolIn, Mem}
 use Rattle.writer.specs.Calls.{finishCall}
+use Rattle.kinds.specs.LaneLaws.{every-of-lanes}
 use Rattle.written.specs.Writer.{Writer, rootOver, tree, finish}
 use Rattle.written.specs.Each.{Each, each-still}
-use Rattle.kinds.specs.LaneLaws.{every-of-lanes}
 use Rattle.written.specs.Lanes.{lent-by}
 use Rattle.written.specs.Stands.{Shows, Stands, Agrees}
 use Rattle.written.specs.Stays.{stands-agree}
@@ -42,15 +42,23 @@ module _ (s : State) (k : Mem) (w : Writer) (h : Stands s k w) (r : Rec) (waits 
   shown : Each (Shows s k) 0 (r ∷ w .parts)
   shown = (rw waits at (h .root), h .parts)
 
+  -- the table has room for it, since its records are read from it
+  last : (n : ℕ) (rs : List Rec) → n ≤ recordsLent (k .table) → Each (Shows s k) n rs → n + length rs ≤ recordsLent (k .table)
+  last n [] b e = omega arith
+  last n (a ∷ rs) b e = omega (arith, last (n + 1) rs (omega (arith, good-lent (k .table) n (e .0 .geometry) (e .0 .read))) (e .1))
+
+  lent : s .parts + 1 ≤ recordsLent (k .table)
+  lent = omega (arith, h .count, last 0 (r ∷ w .parts) (omega arith) shown)
+
   -- from any table, whole or not
   pub tree-records : Holds (λ n. seen (k .pools) (recordIn (k .table) n)) 0 (r ∷ w .parts)
   tree-records = each-still (Shows s k) _ 0 (r ∷ w .parts) (λ i a b c q. rw (q .read) (ap some (q .lists))) shown
 
   -- from a table of whole records, as a reader does
-  module _ (whole : tableGood (k .table) ≡ true) (lent : s .parts + 1 ≤ recordsLent (k .table)) where
+  module _ (whole : tableGood (k .table) ≡ true) where
     has : (n : ℕ) → n < s .parts + 1 → hasRecord (k .table) n ≡ true
     unfolding hasRecord
-    has n b = rw (whole, lt-ltb n (recordsLent (k .table)) (omega arith), lt-ltb n 4096 (omega (arith, h .most)))
+    has n b = rw (whole, lt-ltb n (recordsLent (k .table)) (omega (arith, lent)), lt-ltb n 4096 (omega (arith, h .most)))
 
     lists-in : (n : ℕ) (a : Rec) (q : Shows s k n a) → listsIn (q .geometry) (lentOf (k .pools)) n (recordsLent (k .table)) ≡ true
     unfolding listsIn
@@ -69,12 +77,12 @@ module _ (s : State) (k : Mem) (w : Writer) (h : Stands s k w) (r : Rec) (waits 
 
 -- between finish and next, on any memory that agrees with what finish left
 pub finished-read : (s : State) (k m : Mem) (w : Writer) → Stands s k w → finishCall s k .wrote .number ≡ 0 → Agrees (finishCall s k .wrote .state) (finishCall s k .mem) m
-    → tableGood (m .table) ≡ true → finishCall s k .wrote .state .parts + 1 ≤ recordsLent (m .table) → Holds (recordWith (m .table) (m .pools)) 0 (tree w)
+    → tableGood (m .table) ≡ true → Holds (recordWith (m .table) (m .pools)) 0 (tree w)
 unfolding finish
-finished-read s k m w h q a whole lent =
-    tree-read _ m (finish w) (stands-agree _ (finishCall s k .mem) m (finish w) a (finish-stands s k w h q)) (rootOver w (w .parts)) refl whole lent
+finished-read s k m w h q a whole =
+    tree-read _ m (finish w) (stands-agree _ (finishCall s k .mem) m (finish w) a (finish-stands s k w h q)) (rootOver w (w .parts)) refl whole
 
 -- and so after any row of calls, whichever feature it is
 pub row-tree : {s : State} {k : Mem} {w : Writer} {l : List ℕ} → Reached s k w l → (r : Rec) → w .root ≡ some r → (m : Mem) → Agrees s k m
-    → tableGood (m .table) ≡ true → s .parts + 1 ≤ recordsLent (m .table) → Holds (recordWith (m .table) (m .pools)) 0 (r ∷ w .parts)
-row-tree {s} {k} {w} row r waits m a whole lent = tree-read s m w (stands-agree s k m w a (row-stands row)) r waits whole lent
+    → tableGood (m .table) ≡ true → Holds (recordWith (m .table) (m .pools)) 0 (r ∷ w .parts)
+row-tree {s} {k} {w} row r waits m a whole = tree-read s m w (stands-agree s k m w a (row-stands row)) r waits whole
