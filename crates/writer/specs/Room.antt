@@ -6,6 +6,7 @@ use native.Mathlib.Omega.{arith}
 use lib.Dec.{leb}
 use borrow.Author.Tests.{leb-true}
 use Rattle.laws.specs.Every.{both}
+use Rattle.kinds.specs.LaneLaws.{lane-of-every}
 use Rattle.kinds.specs.Lanes.{Lane, xyL, endsL, zL, mL, tL, tmL, usable, lentIn, everyLane}
 use Rattle.kinds.specs.declared.geometry.Lent.{Lent}
 use Rattle.writer.specs.declared.state.Pending.{Pending}
@@ -28,15 +29,6 @@ pub record Room (p : Pending) (a : Added) (records lent : ℕ) (pools : Lent) : 
   pub words : (n : Lane) → used (wordsIn p n) + more a n ≤ lentIn pools n
   pub fits : Fits p a
 
-lane-at : (f : Lane → Bool) → everyLane f ≡ true → (n : Lane) → f n ≡ true
-lane-at f h =
-    let tm = both _ (f tmL) h in
-    let t = both _ (f tL) (tm .0) in
-    let m = both _ (f mL) (t .0) in
-    let z = both _ (f zL) (m .0) in
-    let ends = both (f xyL) (f endsL) (z .0) in
-    λ n. elim n [ xyL ↦ ends .0 | endsL ↦ ends .1 | zL ↦ z .1 | mL ↦ m .1 | tL ↦ t .1 | tmL ↦ tm .1 ]
-
 room-in : (n lent most : ℕ) → roomIn n lent most ≡ true → (n ≤ lent) × (n ≤ most)
 room-in n lent most h = let t = both (leb n lent) (leb n most) h in (leb-true n lent (t .0), leb-true n most (t .1))
 
@@ -45,7 +37,7 @@ unfolding hasRoom
 room-of p a records lent pools h =
     let t = both (roomIn records lent 4096) (everyLane (laneRoom p pools a)) h in
     let r = room-in records lent 4096 (t .0) in
-    let lane : (n : Lane) → (used (wordsIn p n) + more a n ≤ lentIn pools n) × (used (wordsIn p n) + more a n ≤ usable n) = λ n. room-in (used (wordsIn p n) + more a n) (lentIn pools n) (usable n) (lane-at (laneRoom p pools a) (t .1) n) in
+    let lane : (n : Lane) → (used (wordsIn p n) + more a n ≤ lentIn pools n) × (used (wordsIn p n) + more a n ≤ usable n) = λ n. room-in (used (wordsIn p n) + more a n) (lentIn pools n) (usable n) (lane-of-every (laneRoom p pools a) (t .1) n) in
     record { table = r .0; records-fit = r .1; words = λ n. lane n .0; fits = λ n. lane n .1 }
 
 -- what has grown within the usable stays within it
