@@ -1,0 +1,519 @@
+#!/usr/bin/env python3
+"""The cases of crates/writer_cases: rows of calls to the geometry writer.
+
+    vectors/writer.py ORACLE > crates/writer_cases/stdin
+
+ORACLE is the folder where the oracle, the crate's own Rust, was built. A row is a start and then events, finishes and nexts, each on
+memory lent as long as the row says at that call. What each call answers and leaves behind is given by `Writer`, this script's own reading
+of the paper's Writing paragraphs. Every row is then written by the oracle too (request W, without the calls that only the paper refuses: 12,
+15, and 11 for a record of another length), and this script stops where the two differ in a number, in the state after a call, in a
+finished tree, record by record and word by word, or in the lists still pending at the row's end. From the paper alone come 11 to 15, where
+the pending lists stand, and the words that stay as they were. The seed is fixed: the same list comes out every time. How many rows and
+numbers of each sort there are is written to standard error.
+
+A case has a head of two bytes, numbers, a checksum of eight bytes, and the event's bytes without the zeros at their end.
+  head     how many bytes each number has, 1 or 4; what is called: 0 start, 1 event, 2 finish, 3 next
+  numbers  0: number, 1: how often the event is given, 2: lent records, 3: lent bytes after them, 4: lent of each pool,
+           10: state after, 30: length of the event
+  state    declared, detect, promote, current, mode, waiting, parts, properties, then start and count of what is pending in each pool
+A start's lent lengths are the row's memory: its canaries, and the checksums of all later calls, go as far.
+"""
+import collections, copy, itertools, random, struct, sys
+
+sys.path.insert(0, sys.argv[1])
+from cases import frame, word
+from oracle import FINISH as FINISH_ITEM, Oracle, begin, end, ev
+
+START, EVENT, FINISH, NEXT = range(4)
+DONE, MIXED, MALFORMED, NO_ROOM, NOT_ITS_TURN = 0, 5, 11, 12, 15
+NORMAL, COLLECTION, FORCE_MULTI = range(3)
+MODES = ("Normal", "GeometryCollection", "ForceMulti")
+POOLS = ("xy", "ends", "z", "m", "t", "tm")
+XY, ENDS = 0, 1
+USABLE_RECORDS, USABLE = 4096, (131072, 65536, 65536, 65536, 65536, 65536)
+TYPES = sorted(set(range(1, 18)) - {13, 14})
+TAGGED_TYPES = (2, 3, 17)
+KINDS = TYPES + [kind + 32 for kind in TYPES] + [64, 65]
+ALL_BITS = 2**64 - 1
+oracle = Oracle()
+pick = random.Random(3)
+
+
+# The writer, as the paper has it.
+
+def is_malformed(event):
+    if len(event) != 64 or event[0] not in KINDS:
+        return True
+    kind, tagged, present, spare, size, _, more_spare, x, y, *values = struct.unpack("<BBBBIII6Q", event)
+    unused = [spare, more_spare, tagged // 2, present // 16]
+    unused += [tagged] if kind >= 64 or kind % 32 not in TAGGED_TYPES else []
+    unused += [size] if kind >= 32 or kind == 1 else []
+    unused += [x, y] if kind < 64 else []
+    unused += [present] if kind != 65 else []
+    return any(unused + [value for i, value in enumerate(values) if not present >> i & 1])
+
+
+class Writer:
+    def __init__(self, declared, detect, promote, held):
+        self.declared, self.detect, self.promote = declared, detect, promote
+        self.current, self.mode, self.waiting, self.parts = 0, NORMAL, 0, 0
+        self.start, self.count = [0] * 6, [0] * 6
+        self.table = bytearray(i % 251 for i in range(64 * held[0] + held[1]))
+        self.pools = [[0xC0DE << 48 | i for i in range(n)] for n in held[2:]]
+        self.pools[ENDS] = [0xC0DE << 16 | i % 65536 for i in range(held[2 + ENDS])]
+
+    def state(self):
+        pending = [n for pair in zip(self.start, self.count) for n in pair]
+        return [self.declared, self.detect, self.promote, self.current, self.mode, self.waiting, self.parts, 0, *pending]
+
+    def used(self):
+        """Of the table's records and of each pool's words."""
+        records = self.parts + 1 if self.parts or self.waiting else 0
+        return [records] + [start + count for start, count in zip(self.start, self.count)]
+
+    def has_room(self, lent, records, more=(0,) * 6):
+        if records > min(lent[0], USABLE_RECORDS):
+            return False
+        needed = [start + count + n for start, count, n in zip(self.start, self.count, more)]
+        return all(n <= min(pair) for n, *pair in zip(needed, lent[2:], USABLE))
+
+    def typed(self, kind):
+        """Declared type, current type and mode after a begin, or None where types are mixed."""
+        declared, current, mode = self.declared, self.current, self.mode
+        if kind != declared:
+            lifted = self.promote and kind in (2, 3)
+            if declared == 0:
+                found = kind + 3 if lifted else kind
+                mode = FORCE_MULTI if lifted else mode
+                if not self.detect:
+                    current = found
+                elif mode != COLLECTION or found == 7:
+                    declared = found
+            elif declared == 7 and mode == COLLECTION:
+                pass
+            elif lifted and declared == kind + 3 and mode != COLLECTION:
+                mode = FORCE_MULTI
+            else:
+                return None
+            current = kind if mode == COLLECTION else current
+        return declared, current, COLLECTION if kind == 7 else mode
+
+    def event(self, event, lent):
+        if is_malformed(event):
+            return MALFORMED
+        if self.waiting:
+            return NOT_ITS_TURN
+        kind, tagged, present = event[:3]
+        typing, words, part = (self.declared, self.current, self.mode), [[] for _ in POOLS], False
+        calmed = (self.declared, self.current, NORMAL if tagged and self.mode == FORCE_MULTI else self.mode)
+        if kind < 32 and (tagged or kind not in TAGGED_TYPES):
+            typing = self.typed(kind)
+        elif kind == 33:
+            part = self.mode == COLLECTION
+        elif kind == 34:
+            typing, part = calmed, self.mode == COLLECTION
+            words[ENDS] = [self.count[XY] // 2] if not tagged or self.mode == FORCE_MULTI else []
+        elif kind == 35:
+            typing, part = calmed, not tagged or self.mode != NORMAL
+        elif kind == 39:
+            typing = (self.declared, self.current, NORMAL)
+        elif kind >= 64:
+            x, y, *values = struct.unpack("<6Q", event[16:])
+            words[XY] = [x, y]
+            words[2:] = [[value] if present >> i & 1 else [] for i, value in enumerate(values)]
+        if typing is None:
+            return MIXED
+        if not self.has_room(lent, self.parts + 2 if part else self.used()[0], [len(more) for more in words]):
+            return NO_ROOM
+        for pool, more in enumerate(words):
+            at = self.start[pool] + self.count[pool]
+            self.pools[pool][at:at + len(more)] = more
+            self.count[pool] += len(more)
+        if part:
+            self.parts += 1
+            self.put_part(self.parts)
+        self.declared, self.current, self.mode = typing
+        return DONE
+
+    def put_part(self, number):
+        """The pending lists as a record; they are pending no longer."""
+        kept = [count > (1 if pool == ENDS else 0) or pool == XY for pool, count in enumerate(self.count)]
+        pairs = [pair if there else (0, 0) for there, pair in zip(kept, zip(self.start, self.count))]
+        self.put_record(number, sum(there << pool for pool, there in enumerate(kept)), *pairs, (0, 0))
+        self.start = [start + there * count for there, start, count in zip(kept, self.start, self.count)]
+        self.count = [0] * 6
+
+    def put_record(self, number, present, *pairs):
+        record = struct.pack("<BBH14II", self.current, present, 0, *itertools.chain(*pairs), 0)
+        self.table[64 * number:64 * number + 64] = record
+
+    def finish(self, lent):
+        if self.waiting:
+            return NOT_ITS_TURN
+        if not self.has_room(lent, self.parts + 1):
+            return NO_ROOM
+        if self.parts == 0:
+            self.put_part(0)
+        else:
+            self.put_record(0, 64, *[(0, 0)] * 6, (1, self.parts))
+        self.waiting = 1
+        return DONE
+
+    def next(self, lent):
+        if not self.waiting:
+            return NOT_ITS_TURN
+        if not self.has_room(lent, self.parts + 1):
+            return NO_ROOM
+        for pool, start, count in zip(self.pools, self.start, self.count):
+            pool[:count] = pool[start:start + count]
+        self.start, self.parts, self.waiting = [0] * 6, 0, 0
+        return DONE
+
+    def checksum(self):
+        mix = 1
+        for n in itertools.chain(self.table, *self.pools):
+            mix ^= n
+            mix ^= mix << 13 & ALL_BITS
+            mix ^= mix >> 7
+            mix ^= mix << 17 & ALL_BITS
+        return mix
+
+
+# A row: its calls are made on the writer, laid out as cases, and given to the oracle.
+
+# Records, bytes after them, words of each pool.
+SLICES = (0, 2, 3, 4, 5, 6, 7)
+HELD = (9, 24, 48, 16, 16, 16, 16, 16)
+counted = collections.Counter()
+
+
+class Row:
+    def __init__(self, declared, detect=0, promote=0, held=HELD):
+        self.writer, self.held, self.cases = Writer(declared, detect, promote, held), held, []
+        self.items, self.answers, self.trees = [], [], []
+        self.counted = collections.Counter()
+        self.typing = dict(declared=declared, detect=detect, promote=promote)
+        self.lay_out(START, DONE, held)
+
+    def lay_out(self, what, number, lent, event=b"", times=1):
+        numbers = [number, times, *lent, *self.writer.state(), len(event)]
+        width = 4 if max(numbers) > 255 else 1
+        laid = b"".join(n.to_bytes(width, "little") for n in numbers)
+        self.cases.append(frame(bytes([width, what]), laid, word(self.writer.checksum()), event.rstrip(b"\0")))
+        self.counted[what, number] += 1
+        return number
+
+    def event(self, event, lent=None, times=1):
+        lent = lent or self.held
+        for _ in range(times):
+            number = self.writer.event(event, lent)
+            if not self.writer.waiting and len(event) == 64 and number != NO_ROOM:
+                self.ask(event, number)
+        return self.lay_out(EVENT, number, lent, event, times)
+
+    def events(self, events):
+        for event in events:
+            self.event(event)
+
+    def finish(self, lent=None):
+        number = self.writer.finish(lent or self.held)
+        if number == DONE:
+            self.ask(FINISH_ITEM, number)
+            lists = [pool[:start] for pool, start in zip(self.writer.pools, self.writer.start)]
+            self.trees.append((bytes(self.writer.table[:64 * self.writer.parts + 64]), lists))
+        return self.lay_out(FINISH, number, lent or self.held)
+
+    def next(self, lent=None):
+        return self.lay_out(NEXT, self.writer.next(lent or self.held), lent or self.held)
+
+    def feature(self, events):
+        self.events(events)
+        self.finish()
+        self.next()
+
+    def ask(self, item, number):
+        """What the oracle is to answer. Its finish is a finish and a next."""
+        writer = self.writer
+        parts = 0 if item == FINISH_ITEM else writer.parts
+        self.items.append(item)
+        self.answers.append((number, [writer.declared, writer.current, MODES[writer.mode], parts, *writer.count]))
+
+    def done(self):
+        answer = oracle.write(self.items, **self.typing, raw=False)
+        states = [[state[name] for name in ("declared", "current", "mode", "parts", *POOLS)] for state in answer["states"]]
+        assert self.answers == list(zip(answer["codes"], states)), self.typing
+        assert self.trees == [(tree.table, tree.pools) for tree, *_ in answer["features"]], self.typing
+        pending = zip(self.writer.pools, self.writer.start, self.writer.count)
+        assert answer["pending"].pools == [pool[start:start + count] for pool, start, count in pending], self.typing
+        counted.update(self.counted)
+        return self.cases
+
+
+# Events: well nested, wild and malformed.
+
+DOUBLES = [0, 1 << 63, 1, 0x7FF << 52, 0xFFF << 52, 0x7FF0000000000001, 0xFFF8123456789ABC, 0x3FF << 52]
+
+
+def value():
+    return pick.choice(DOUBLES) if pick.random() < 0.3 else pick.getrandbits(64)
+
+
+def pair(present=None):
+    if present is None:
+        return ev(64, idx=pick.randrange(9), x=value(), y=value())
+    values = {name: value() for i, name in enumerate(POOLS[2:]) if present >> i & 1}
+    return ev(65, idx=pick.randrange(9), present=present, x=value(), y=value(), **values)
+
+
+def pairs(most=3):
+    present = pick.choice([None, None, pick.randrange(16)])
+    return [pair(present) for _ in range(pick.randrange(most + 1))]
+
+
+def wrapped(kind, inside, tagged=0):
+    tagged = tagged if kind in TAGGED_TYPES else 0
+    size = 0 if kind == 1 else pick.choice([0, 1, len(inside), 2**32 - 1])
+    return [begin(kind, size, pick.randrange(3), tagged), *inside, end(kind, pick.randrange(3), tagged)]
+
+
+INSIDE = {3: [2], 5: [2], 6: [3], 9: [2, 8], 10: [2, 8, 9], 11: [2, 8, 9], 12: [3, 10], 15: [3], 16: [17], 17: [2]}
+
+
+def geometry(kind, tagged=1, levels=3):
+    """The events of a geometry, as a reader would say them."""
+    if kind in (1, 2, 4, 8):
+        return wrapped(kind, [pair(pick.choice([None, pick.randrange(16)]))] if kind == 1 else pairs(), tagged)
+    some = range(pick.randrange(3))
+    if kind == 7:
+        inside = [geometry(pick.choice(TYPES if levels > 1 else [1, 2, 3, 4]), 1, levels - 1) for _ in some]
+    else:
+        inside = [geometry(pick.choice(INSIDE[kind]), 0, levels) for _ in some]
+    return wrapped(kind, list(itertools.chain(*inside)), tagged)
+
+
+def wild_event():
+    kind = pick.choice([pick.choice(KINDS), 64, 64, 65, 65, 33, 34, 34, 35, 35, 7, 39, 2, 3])
+    if kind >= 64:
+        return pair(None if kind == 64 else pick.randrange(16))
+    return ev(kind, tagged=pick.randrange(2) if kind % 32 in TAGGED_TYPES else 0, idx=pick.randrange(3))
+
+
+def malformed_event():
+    event = bytearray(wild_event())
+    how = pick.randrange(4)
+    if how == 0:
+        return bytes(event[:pick.choice([0, 1, 32, 63])])
+    if how == 1:
+        return bytes(event) + bytes(pick.choice([1, 16]))
+    event[pick.choice([3, 12, 15]) if how == 2 else 0] = pick.choice([13, 14, 18, 32, 45, 66, 255])
+    return bytes(event)
+
+
+# Rows, by sort.
+
+SWITCHES = list(itertools.product((0, 1), repeat=2))
+
+
+def nested_rows():
+    """Each declared type, each detect and promote: features of that type, of the one it is promoted from, and of any other."""
+    for declared, (detect, promote), _ in itertools.product(range(18), SWITCHES, range(4)):
+        row = Row(declared, detect, promote)
+        likely = [kind for kind in (declared, declared - 3) if kind in TYPES] or TYPES
+        for _ in range(3):
+            row.feature(geometry(pick.choice(likely if pick.random() < 0.7 else TYPES)))
+        yield row
+
+
+def type_rows():
+    """Each declared type, each detect and promote, each mode: one begin of each type, and a part of it."""
+    for declared, (detect, promote), mode, kind in itertools.product(range(18), SWITCHES, MODES, TYPES):
+        row = Row(declared, detect, promote, held=(3, 0, 4, 2, 1, 1, 1, 1))
+        if mode == "GeometryCollection":
+            row.event(begin(7))
+        elif mode == "ForceMulti":
+            row.event(begin(pick.choice([2, 3]), tagged=1))
+        if MODES[row.writer.mode] == mode:
+            row.event(begin(kind, tagged=int(kind in TAGGED_TYPES)))
+            row.event(ev(35, tagged=pick.randrange(2)))
+            yield row
+
+
+def other_declared_rows():
+    for declared in range(18, 256):
+        row = Row(declared, pick.randrange(2), pick.randrange(2), held=(3, 1, 8, 3, 2, 2, 2, 2))
+        row.event(begin(pick.choice(TYPES), tagged=0))
+        row.event(begin(2, tagged=1))
+        row.feature([pair(), end(2)])
+        yield row
+
+
+def lent_about(row):
+    """The row's memory, but for one slice, which is cut near what the state uses."""
+    lent = list(row.held)
+    at, used = pick.choice(list(zip(SLICES, row.writer.used())))
+    lent[at] = min(max(used + pick.choice([-1, 0, 1, 2]), 0), lent[at])
+    return lent
+
+
+def wild_rows(count, calls, tight):
+    for _ in range(count):
+        row = Row(pick.choice([0, 0, 0, 7, 7, 5, 6, pick.randrange(18)]), pick.randrange(2), pick.randrange(2))
+        for _ in range(calls):
+            lent = lent_about(row) if pick.random() < tight else None
+            chance = pick.random()
+            if chance < (0.5 if row.writer.waiting else 0.02):
+                row.next(lent)
+            elif chance < (0.55 if row.writer.waiting else 0.12):
+                row.finish(lent)
+            else:
+                row.event(malformed_event() if pick.random() < 0.03 else wild_event(), lent)
+        yield row
+
+
+def leftover_rows():
+    """Lists that are still pending when a feature with parts is finished, over several features."""
+    for declared, (detect, promote), _ in itertools.product((0, 3, 6, 7, 15), SWITCHES, range(4)):
+        row = Row(declared, detect, promote)
+        for _ in range(4):
+            events = [pair(pick.randrange(16)), end(2), pair(pick.randrange(16)), end(2)][:pick.randrange(5)]
+            row.event(ev(35))
+            row.events([pair(pick.randrange(16)) for _ in range(pick.randrange(3))])
+            row.event(ev(35))
+            row.feature(events)
+        row.feature([])
+        yield row
+
+
+def order_rows():
+    """Every set of reasons to refuse, at each call."""
+    short = (1, 63, 1, 1, 1, 1, 1, 1)
+    for waiting, malformed, mixed, cut in itertools.product((0, 1), repeat=4):
+        row = Row(3)
+        row.events([begin(3, tagged=1), pair(15), end(2), ev(35), pair(15), end(2)])
+        if waiting:
+            row.finish()
+        event = bytearray(begin(4) if mixed else pair(15))
+        event[3] = malformed
+        row.event(bytes(event), short if cut else None)
+        row.finish(short if cut else None)
+        row.next(short if cut else None)
+        row.next()
+        yield row
+
+
+BEFORE = ([], [pair(15), end(2)], [begin(2, tagged=1), pair(15)], [begin(7), pair(15), end(2)], [begin(7), pair(15), end(2), pair(15)],
+          [pair(15), end(2), end(2), ev(35), pair(15), end(2), ev(35), pair(15), end(2)])
+CALLS = (*[pair(present) for present in (None, 1, 2, 4, 8, 15)], end(2), end(2, tagged=1), ev(33), ev(35), ev(35, tagged=1), ev(39),
+         begin(1), FINISH, NEXT)
+
+
+def make(call, on, lent):
+    return on.finish(lent) if call == FINISH else on.next(lent) if call == NEXT else on.event(call, lent)
+
+
+def shorter(lent, at):
+    return [n - (i == at) for i, n in enumerate(lent)]
+
+
+def tightest(row, call):
+    """The least that can be lent to a call that is taken. The table's remainder stays, and is no room."""
+    lent = list(row.held)
+    for at in SLICES:
+        while lent[at] and make(call, copy.deepcopy(row.writer), shorter(lent, at)) == DONE:
+            lent[at] -= 1
+    return lent
+
+
+def room_rows():
+    """Each call with each slice one short of what it takes, then with all of them just long enough."""
+    for events, call, detect in itertools.product(BEFORE, CALLS, (0, 1)):
+        row = Row(0, detect, promote=1, held=(5, 63, 8, 5, 4, 4, 4, 4))
+        row.events(events)
+        if call == NEXT:
+            row.finish()
+        exact = tightest(row, call)
+        for at in SLICES:
+            if exact[at]:
+                make(call, row, shorter(exact, at))
+        make(call, row, exact)
+        row.feature([])
+        yield row
+
+
+def bench_rows():
+    """B1 to B9 of the paper."""
+    ring = [begin(2, 4), *[pair() for _ in range(4)], end(2)]
+    line = lambda n, tagged=0: [begin(2, n, tagged=tagged), *[pair() for _ in range(n)], end(2, tagged=tagged)]
+    polygon = [begin(3, 1, tagged=1), *ring, end(3, tagged=1)]
+    for declared, promote, events in (
+            (3, 0, polygon), (3, 0, [polygon[0], *ring, *ring, polygon[-1]]), (3, 0, [polygon[0], polygon[-1]]),
+            (5, 0, [begin(5, 3), *line(2), *line(0), *line(3), end(5)]), (5, 1, line(2, 1)), (5, 0, line(2, 1)),
+            (6, 0, [begin(6), end(6)]), (7, 0, [begin(7, 1), *polygon, end(7)]),
+            (0, 0, [begin(7, 1), begin(1), pair(), end(1), end(7)])):
+        row = Row(declared, 0, promote)
+        for _ in range(3):
+            row.feature(events)
+        yield row
+
+
+LONG = (4098, 0, 131076, 65538, 65538, 65538, 65538, 65538)
+
+
+def pair_limit_row():
+    """65,536 pairs, in blocks of their own words, and one more; then the last pair of a part, and one more."""
+    row = Row(4, held=LONG)
+    row.event(begin(4))
+    for _ in range(4):
+        row.event(pair(15), times=16384)
+    row.event(pair())
+    row.event(pair(0))
+    row.finish()
+    row.next()
+    row.event(pair())
+    row.feature([ev(35)])
+    return row
+
+
+def part_limit_row():
+    """4,095 parts and one more; what is pending beside them is carried over."""
+    row = Row(7, held=LONG)
+    row.event(begin(7))
+    for most in (1365, 1365, 1364):
+        row.event(pair(), times=3)
+        row.event(ev(33), times=most)
+    row.events([pair(), pair(), ev(33), ev(33), pair(), ev(34), ev(35, tagged=1), ev(39), end(2)])
+    row.finish()
+    row.next()
+    row.feature([ev(35)])
+    return row
+
+
+def end_limit_row():
+    """65,536 ends and one more: refused in a collection too, where the end would be dropped again."""
+    row = Row(7, held=LONG)
+    for _ in range(4):
+        row.event(pair())
+        row.event(end(2), times=16384)
+    row.events([end(2), begin(7), end(2), ev(34, tagged=1), end(2)])
+    row.finish()
+    row.next()
+    row.feature([end(2)])
+    return row
+
+
+def limit_rows():
+    yield from (pair_limit_row(), part_limit_row(), end_limit_row())
+
+
+def main():
+    sorts = dict(nested=nested_rows(), types=type_rows(), declared=other_declared_rows(), wild=wild_rows(350, 30, 0), tight=wild_rows(250, 30, 0.3),
+                 leftovers=leftover_rows(), order=order_rows(), room=room_rows(), bench=bench_rows(), limits=limit_rows())
+    for name, rows in sorts.items():
+        laid = [row.done() for row in rows]
+        sys.stdout.buffer.write(b"".join(itertools.chain(*laid)))
+        print(name, len(laid), "rows,", sum(map(len, laid)), "cases,", sum(len(case) for row in laid for case in row), "bytes", file=sys.stderr)
+    for (what, number), count in sorted(counted.items()):
+        print(("start", "event", "finish", "next")[what], "answered", number, count, file=sys.stderr)
+
+
+main()
