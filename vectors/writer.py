@@ -4,12 +4,12 @@
     vectors/writer.py ORACLE > crates/writer_cases/stdin
 
 ORACLE is the folder where the oracle, the crate's own Rust, was built. A row is a start and then events, finishes and nexts, each on
-memory lent as long as the row says at that call. What each call answers and leaves behind is given by `Writer`, this script's own reading
-of the paper's Writing paragraphs. Every row is then written by the oracle too (request W, without the calls that only the paper refuses: 12,
-15, and 11 for a record of another length), and this script stops where the two differ in a number, in the state after a call, in a
-finished tree, record by record and word by word, or in the lists still pending at the row's end. From the paper alone come 11 to 15, where
-the pending lists stand, and the words that stay as they were. The seed is fixed: the same list comes out every time. How many rows and
-numbers of each sort there are is written to standard error.
+memory lent as long as the row says at that call. What each call answers and leaves behind is given by `Writer`, this script's own
+reading of the paper's Writing paragraphs. Every row is then written by the oracle too (request W; it is not given what the paper alone
+refuses, with 12 or 15, or with 11 for its length), and this script stops where the two differ: in a number, in the state after a call,
+in a finished tree, record by record and word by word, or in the lists still pending at the row's end. From the paper alone come 12, 15,
+where the pending lists stand, and the words that stay as they were. The seed is fixed: the same list comes out every time. How many
+rows of each sort there are, and how often each number is answered, is written to standard error.
 
 A case has a head of two bytes, numbers, a checksum of eight bytes, and the event's bytes without the zeros at their end.
   head     how many bytes each number has, 1 or 4; what is called: 0 start, 1 event, 2 finish, 3 next
@@ -316,7 +316,7 @@ SWITCHES = list(itertools.product((0, 1), repeat=2))
 
 def nested_rows():
     """Each declared type, each detect and promote: features of that type, of the one it is promoted from, and of any other."""
-    for declared, (detect, promote), _ in itertools.product(range(18), SWITCHES, range(4)):
+    for declared, (detect, promote), _ in itertools.product(range(18), SWITCHES, range(7)):
         row = Row(declared, detect, promote)
         likely = [kind for kind in (declared, declared - 3) if kind in TYPES] or TYPES
         for _ in range(3):
@@ -331,7 +331,7 @@ def type_rows():
         if mode == "GeometryCollection":
             row.event(begin(7))
         elif mode == "ForceMulti":
-            row.event(begin(pick.choice([2, 3]), tagged=1))
+            row.event(begin(3 if declared == 6 else 2, tagged=1))
         if MODES[row.writer.mode] == mode:
             row.event(begin(kind, tagged=int(kind in TAGGED_TYPES)))
             row.event(ev(35, tagged=pick.randrange(2)))
@@ -506,12 +506,13 @@ def limit_rows():
 
 
 def main():
-    sorts = dict(nested=nested_rows(), types=type_rows(), declared=other_declared_rows(), wild=wild_rows(350, 30, 0), tight=wild_rows(250, 30, 0.3),
-                 leftovers=leftover_rows(), order=order_rows(), room=room_rows(), bench=bench_rows(), limits=limit_rows())
+    sorts = dict(nested=nested_rows(), types=type_rows(), declared=other_declared_rows(), wild=wild_rows(350, 30, 0),
+                 tight=wild_rows(250, 30, 0.3), leftovers=leftover_rows(), order=order_rows(), room=room_rows(), bench=bench_rows(),
+                 limits=limit_rows())
     for name, rows in sorts.items():
         laid = [row.done() for row in rows]
         sys.stdout.buffer.write(b"".join(itertools.chain(*laid)))
-        print(name, len(laid), "rows,", sum(map(len, laid)), "cases,", sum(len(case) for row in laid for case in row), "bytes", file=sys.stderr)
+        print(name, len(laid), "rows,", sum(map(len, laid)), "cases", file=sys.stderr)
     for (what, number), count in sorted(counted.items()):
         print(("start", "event", "finish", "next")[what], "answered", number, count, file=sys.stderr)
 
