@@ -18,23 +18,23 @@ abbrev rest : List ℕ
 rest = replicate 4 0xee
 
 -- a Byte of -1, by its bits
-b12 : run values (reading (0x00 ∷ 0x00 ∷ 0xff ∷ []) true (0 ∷ []) 65536) log 0
+pub b12 : run values (reading (0x00 ∷ 0x00 ∷ 0xff ∷ []) true (0 ∷ []) 65536) log 0
     ≡ out 0 1 ((0 ∷ 0 ∷ 0 ∷ 0 ∷ 1 ∷ 0 ∷ 0 ∷ 0 ∷ 0xff ∷ 0 ∷ 0 ∷ 0 ∷ 0 ∷ 0 ∷ 0 ∷ 0 ∷ []) ++ rest)
 unfolding run put roomAt values valueBytes reading propertiesFrom propertiesUpTo onItem itemAt valueAt numberAt wordOf widthOf
 b12 = refl
 
 -- a UByte of 5, and a trailing byte
-b13 : run values (reading (0x00 ∷ 0x00 ∷ 0x05 ∷ 0x07 ∷ []) true (1 ∷ []) 65536) log 0
+pub b13 : run values (reading (0x00 ∷ 0x00 ∷ 0x05 ∷ 0x07 ∷ []) true (1 ∷ []) 65536) log 0
     ≡ out 0 1 ((0 ∷ 0 ∷ 1 ∷ 0 ∷ 1 ∷ 0 ∷ 0 ∷ 0 ∷ 5 ∷ 0 ∷ 0 ∷ 0 ∷ 0 ∷ 0 ∷ 0 ∷ 0 ∷ []) ++ rest)
 unfolding run put roomAt values valueBytes reading propertiesFrom propertiesUpTo onItem itemAt valueAt numberAt wordOf widthOf
 b13 = refl
 
-b14 : run values (reading (0x01 ∷ 0x00 ∷ []) true (0 ∷ []) 65536) log 0
+pub b14 : run values (reading (0x01 ∷ 0x00 ∷ []) true (0 ∷ []) 65536) log 0
     ≡ out 2 0 log
 unfolding run put roomAt values valueBytes reading propertiesFrom propertiesUpTo onItem itemAt valueAt numberAt wordOf widthOf
 b14 = refl
 
-string-cut : run values (reading (0x00 ∷ 0x00 ∷ 0x03 ∷ 0x00 ∷ 0x00 ∷ 0x00 ∷ 0x61 ∷ 0x62 ∷ []) true (11 ∷ []) 65536) log 0
+pub string-cut : run values (reading (0x00 ∷ 0x00 ∷ 0x03 ∷ 0x00 ∷ 0x00 ∷ 0x00 ∷ 0x61 ∷ 0x62 ∷ []) true (11 ∷ []) 65536) log 0
     ≡ out 14 0 log
 unfolding run put roomAt values valueBytes reading propertiesFrom propertiesUpTo onItem itemAt valueAt textAt bytesAt textOk isText isUtf8 firstBad Utf8.run charLength rowOf begins has
 string-cut = refl

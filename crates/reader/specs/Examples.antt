@@ -14,7 +14,7 @@ use Rattle.lines.specs.Coords.{pairS, coordsS, betweenS}
 use Rattle.lines.specs.Lines.{stretchS, linesS, ringsS, stretchesS, multiLineS, pointS}
 use Rattle.reader.specs.Reading.{spanS, partsS, kindS, geometryS, rootS, readS}
 
-abbrev noFlags : Flags
+abbrev pub noFlags : Flags
 noFlags = record { z = false; m = false; t = false; tm = false }
 
 -- a record alone

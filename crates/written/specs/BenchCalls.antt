@@ -21,15 +21,15 @@ use Rattle.written.specs.Tree.{Holds}
 use Rattle.written.specs.Feature.{finishesIn, finishedMem, tree-left}
 
 -- so many records, xy words and ends
-abbrev lent : ℕ → ℕ → ℕ → Mem
+abbrev pub lent : ℕ → ℕ → ℕ → Mem
 lent records xy ends = memory (replicate (64 * records) 0) (poolsOf (replicate xy 0) (replicate ends 0) [] [] [] [])
 
 -- the tree that is read once the events are given and finish is called
-abbrev Read : ℕ → Bool → Bool → Mem → List Event → List Rec → Type 0
+abbrev pub Read : ℕ → Bool → Bool → Mem → List Event → List Rec → Type 0
 Read declared detect promote k es = Holds (recordWith (finishedMem (started declared detect promote) k es .table) (finishedMem (started declared detect promote) k es .pools)) 0
 
 -- all is accepted, and that is the tree
-abbrev Makes : ℕ → Bool → Bool → Mem → List Event → List Rec → Type 0
+abbrev pub Makes : ℕ → Bool → Bool → Mem → List Event → List Rec → Type 0
 Makes declared detect promote k es t = (finishesIn (started declared detect promote) k es ≡ true) × Read declared detect promote k es t
 
 by-calls : (declared : ℕ) (detect promote : Bool) (k : Mem) (es : List Event) (t : List Rec) → finishesIn (started declared detect promote) k es ≡ true → tableGood (k .table) ≡ true → treeFrom declared detect promote es ≡ t

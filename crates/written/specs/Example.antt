@@ -70,17 +70,17 @@ unfolding fresh afterAll after begun setType collected coordinate finishPart par
 carried = refl
 
 -- ---- by calls, on two records and four xy words
-abbrev lent : Mem
+abbrev pub lent : Mem
 lent = memory (replicate 128 0) (poolsOf (replicate 4 0) [] [] [] [] [])
 
-abbrev begin : State
+abbrev pub begin : State
 begin = started 7 false false
 
 -- after the first feature's next
-abbrev again : State
+abbrev pub again : State
 again = renewed (finished (fedTo begin lent first))
 
-abbrev over : Mem
+abbrev pub over : Mem
 over = nextMem begin lent first
 
 abbrev carrying : Writer

@@ -1,11 +1,11 @@
 -- A finished tree, read off the memory: record 0 and the parts, as the lists have them.
 use mathlib.Core.Path.{_≡_, refl, ap, _∙_}
 use mathlib.Core.Bool.{true}
-use mathlib.Core.List.{List, [], _∷_}
+use mathlib.Core.List.{List, [], _∷_, _++_, append-assoc}
 use mathlib.Core.Option.{Option, some}
 use Prim.Native.Nat.{ℕ, _+_, _≤_, _<_}
 use native.Mathlib.Omega.{arith}
-use lib.ListN.{length}
+use lib.ListN.{length, length-append, getElem?}
 use borrow.Author.Tests.{le-leb, lt-ltb}
 use Rattle.kinds.specs.Lanes.{Lane, usable, spanIn, lentIn}
 use Rattle.kinds.specs.declared.geometry.Span.{Span}
@@ -28,6 +28,15 @@ use Rattle.written.specs.Rows.{Reached, row-stands}
 -- an accessor of records by number has these, from a number on
 abbrev pub Holds : (ℕ → Option Rec) → ℕ → List Rec → Type 0
 Holds get = Each (λ n r. get n ≡ some r)
+
+-- a list of records, as an accessor
+pub list-holds : (before rs : List Rec) → Holds (getElem? (before ++ rs)) (length before) rs
+list-holds before [] = tt
+list-holds before (r ∷ rs) = (at before, simp (append-assoc, length-append) at (list-holds (before ++ (r ∷ [])) rs))
+  where
+    at : (before : List Rec) → getElem? (before ++ r ∷ rs) (length before) ≡ some r
+    at [] = refl
+    at (q ∷ before) = at before
 
 -- ---- the tests of a record that is where it should be
 pool-in : (span : Span) (n lent most : ℕ) → InPool span n most → n ≤ lent → inPool span lent most ≡ true

@@ -1,0 +1,5 @@
+pub mod Bench
+pub mod Outcome
+pub mod Excluded
+pub mod Row
+pub mod Repeats

@@ -1,0 +1,92 @@
+-- One outcome: whatever meets a call's contract on the same entry is the same, answer, state and every lent slice. The premises are the calls' own `ensures`, word for word.
+use mathlib.Core.Path.{_≡_, sym, ap, _∙_}
+use mathlib.Core.Bool.{Bool}
+use mathlib.Core.List.{List, _++_}
+use Prim.Native.Nat.{ℕ, _*_}
+use lib.ListN.{take, drop}
+use Rattle.laws.specs.Script.{Script, out, Format, run}
+use Rattle.laws.specs.Cut.{recordsOf, roomOf, bytesOf, Said}
+use Rattle.kinds.specs.declared.flags.Flags.{Flags}
+use Rattle.store.specs.Lists.{Pools, recordWith, lentOf}
+use Rattle.store.specs.Log.{events}
+use Rattle.store.specs.Records.{recordAt}
+use Rattle.bbox.specs.declared.geometry.Boxed.{Boxed}
+use Rattle.bbox.specs.Geometry.{boxedOf}
+use Rattle.reader.specs.Reading.{readS}
+use Rattle.props.specs.Writing.{bytesAfter}
+use Rattle.props.specs.Reading.{reading, stopped, values}
+use Rattle.writer.specs.declared.state.State.{State}
+use Rattle.writer.specs.declared.state.Wrote.{Wrote}
+use Rattle.writer.specs.State.{Mem, memOf, outcome, Outcome}
+use Rattle.writer.specs.Calls.{started, eventCall, finishCall, nextCall}
+use Rattle.writer.specs.Property.{propertyCall}
+
+-- ---- a log: its bytes, and the answer's number and count
+said-once : {A : Type 0} (F : Format A) (s : Script A) (L : List ℕ) (number number′ count count′ : ℕ) (M M′ : List ℕ)
+    → Said F s L number count M → Said F s L number′ count′ M′ → (number ≡ number′) × (count ≡ count′) × (M ≡ M′)
+said-once F s L number number′ count count′ M M′ h k =
+    let c : count ≡ count′ = h .count-is ∙ sym (k .count-is) in
+    (h .number-is ∙ sym (k .number-is), c, h .log-is ∙ ap (λ (n : ℕ). bytesOf F (take (roomOf (F .wide) L) (recordsOf s)) ++ drop (F .wide * n) L) c ∙ sym (k .log-is))
+
+ran-once : {A : Type 0} (F : Format A) (s : Script A) (L : List ℕ) (number number′ count count′ : ℕ) (M M′ : List ℕ)
+    → run F s L 0 ≡ out number count M → run F s L 0 ≡ out number′ count′ M′ → (number ≡ number′) × (count ≡ count′) × (M ≡ M′)
+ran-once F s L number number′ count count′ M M′ h k = let e = sym h ∙ k in (cc, cc, cc)
+
+-- ---- a writing call: number, state, and the seven lent slices
+module _ (r r′ : Wrote) (table table′ xy xy′ ends ends′ z z′ m m′ t t′ tm tm′ : List ℕ) where
+  abbrev left : Outcome
+  left = outcome r (memOf table xy ends z m t tm)
+
+  abbrev left′ : Outcome
+  left′ = outcome r′ (memOf table′ xy′ ends′ z′ m′ t′ tm′)
+
+  abbrev pub Same : Type 0
+  Same = (r ≡ r′) × (table ≡ table′) × (xy ≡ xy′) × (ends ≡ ends′) × (z ≡ z′) × (m ≡ m′) × (t ≡ t′) × (tm ≡ tm′)
+
+  same : left ≡ left′ → Same
+  same e = (
+    ap (λ (o : Outcome). o .wrote) e,
+    ap (λ (o : Outcome). o .mem .table) e,
+    ap (λ (o : Outcome). o .mem .pools .xy) e,
+    ap (λ (o : Outcome). o .mem .pools .ends) e,
+    ap (λ (o : Outcome). o .mem .pools .z) e,
+    ap (λ (o : Outcome). o .mem .pools .m) e,
+    ap (λ (o : Outcome). o .mem .pools .t) e,
+    ap (λ (o : Outcome). o .mem .pools .tm) e,
+  )
+
+  pub event-once : (s : State) (k : Mem) (bytes : List ℕ) → left ≡ eventCall s k bytes → left′ ≡ eventCall s k bytes → Same
+  event-once s k bytes h h′ = same (h ∙ sym h′)
+
+  pub finish-once : (s : State) (k : Mem) → left ≡ finishCall s k → left′ ≡ finishCall s k → Same
+  finish-once s k h h′ = same (h ∙ sym h′)
+
+  pub next-once : (s : State) (k : Mem) → left ≡ nextCall s k → left′ ≡ nextCall s k → Same
+  next-once s k h h′ = same (h ∙ sym h′)
+
+pub start-once : (declared : ℕ) (detect promote : Bool) (s s′ : State) → s ≡ started declared detect promote → s′ ≡ started declared detect promote → s ≡ s′
+start-once declared detect promote s s′ h h′ = h ∙ sym h′
+
+pub property-once : (s : State) (column kind bits : ℕ) (text buffer : List ℕ) (r r′ : Wrote) (after after′ : List ℕ)
+    → r ≡ propertyCall s column kind bits text buffer → after ≡ bytesAfter (s .waiting) (s .properties) column kind bits text buffer
+    → r′ ≡ propertyCall s column kind bits text buffer → after′ ≡ bytesAfter (s .waiting) (s .properties) column kind bits text buffer
+    → (r ≡ r′) × (after ≡ after′)
+property-once s column kind bits text buffer r r′ after after′ h k h′ k′ = (h ∙ sym h′, k ∙ sym k′)
+
+-- ---- the readers
+module _ (number number′ count count′ : ℕ) (log log′ : List ℕ) where
+  pub read-once : (F : Flags) (T : List ℕ) (P : Pools) (declared : ℕ) (L : List ℕ)
+      → Said events (readS F (recordWith T P) declared) L number count log → Said events (readS F (recordWith T P) declared) L number′ count′ log′
+      → (number ≡ number′) × (count ≡ count′) × (log ≡ log′)
+  read-once F T P declared L = said-once events (readS F (recordWith T P) declared) L number number′ count count′ log log′
+
+  pub read-properties-once : (bytes : List ℕ) (has-columns : Bool) (columns : List ℕ) (stop : ℕ) (L : List ℕ) (at at′ : Bool)
+      → run values (reading bytes has-columns columns stop) L 0 ≡ out number count log → at ≡ stopped stop (reading bytes has-columns columns stop) number
+      → run values (reading bytes has-columns columns stop) L 0 ≡ out number′ count′ log′ → at′ ≡ stopped stop (reading bytes has-columns columns stop) number′
+      → (number ≡ number′) × (count ≡ count′) × (log ≡ log′) × (at ≡ at′)
+  read-properties-once bytes has-columns columns stop L at at′ h k h′ k′ =
+      let o = ran-once values (reading bytes has-columns columns stop) L number number′ count count′ log log′ h h′ in
+      (o .0, o .1, o .2, k ∙ ap (stopped stop (reading bytes has-columns columns stop)) (o .0) ∙ sym k′)
+
+pub box-once : (T : List ℕ) (P : Pools) (n : ℕ) (b b′ : Boxed) → b ≡ boxedOf P (recordAt T (lentOf P) n) → b′ ≡ boxedOf P (recordAt T (lentOf P) n) → b ≡ b′
+box-once T P n b b′ h h′ = h ∙ sym h′

@@ -1,0 +1,13 @@
+pub mod Geometry
+pub mod Events
+pub mod Format
+pub mod FormatLaws
+pub mod Told
+pub mod ReadsLines
+pub mod Reads
+pub mod ReadsCall
+pub mod Once
+pub mod Writable
+pub mod Tables
+pub mod Amid
+pub mod Writes

@@ -1,0 +1,10 @@
+pub mod Size
+pub mod Least
+pub mod Said
+pub mod Values
+pub mod Pairs
+pub mod Lines
+pub mod Root
+pub mod SizeLaws
+pub mod Sound
+pub mod Bound
