@@ -3,3 +3,5 @@ pub mod Outcome
 pub mod Excluded
 pub mod Row
 pub mod Repeats
+pub mod Demand
+pub mod Inhabited

@@ -11,3 +11,13 @@ pub mod Writable
 pub mod Tables
 pub mod Amid
 pub mod Writes
+pub mod Promoted
+pub mod Collections
+pub mod Rows
+pub mod Accepted
+pub mod RoundTrip
+pub mod RowExamples
+pub mod NoMeaning
+pub mod Cases
+pub mod DifferencesWritten
+pub mod DifferencesRead

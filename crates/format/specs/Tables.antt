@@ -82,7 +82,7 @@ all-append : {A : Type 0} (P : A → Type 0) (xs ys : List A) → All P xs → A
 all-append P [] ys p q = q
 all-append P (x ∷ xs) ys p q = (p .0, all-append P xs ys (p .1) q)
 
-all-joined : (P : Coord → Type 0) (ls : List Line) → All (All P) ls → All P (joined ls)
+pub all-joined : (P : Coord → Type 0) (ls : List Line) → All (All P) ls → All P (joined ls)
 all-joined P [] q = tt
 all-joined P (l ∷ ls) q = all-append P l (joined ls) (q .0) (all-joined P ls (q .1))
 

@@ -1,6 +1,6 @@
 -- What the writer makes of a geometry's events means that geometry.
 use mathlib.Core.Path.{_≡_, refl, sym, ap, _∙_}
-use mathlib.Core.Bool.{Bool, true, false, cond}
+use mathlib.Core.Bool.{Bool, true, false, cond, _&&_, _||_}
 use mathlib.Core.List.{List, [], _∷_, map}
 use mathlib.Core.Option.{Option, some}
 use Prim.Native.Nat.{ℕ}
@@ -14,9 +14,9 @@ use Rattle.store.specs.Lists.{Rec}
 use Rattle.writer.specs.declared.state.Typing.{Typing}
 use Rattle.writer.specs.declared.set_type.Typed.the-variants.{Set}
 use Rattle.writer.specs.State.{typing}
-use Rattle.writer.specs.SetType.{promoted, unknownType, collected, setType}
+use Rattle.writer.specs.SetType.{typedNumber, unknownType, collected, setType}
 use Rattle.writer.specs.Calls.{begun}
-use Rattle.written.specs.Writer.{Writer, fresh, typedTo, partOf, lineEnd, polygonEnd, after, afterAll, finish, tree, next}
+use Rattle.written.specs.Writer.{Writer, fresh, typedTo, partOf, lineEnd, polygonEnd, after, afterAll, nay, finish, tree, next}
 use Rattle.written.specs.Tree.{Holds}
 use Rattle.format.specs.Geometry.{Line, Coord, Simple, point, lineString, polygon, multiPoint, multiLineString, multiPolygon, circularString, compoundCurve, curvePolygon, multiCurve, multiSurface, polyhedralSurface, tin, triangle, typeOf}
 use Rattle.format.specs.Events.{Tells, each, group, coordOf, lineOf, triangleOf, simpleOf, begins}
@@ -160,36 +160,45 @@ module _ (F : Flags) (d c : ℕ) (detect promote : Bool) (w₀ : Writer) where
 
 -- ---- the first event sets the type
 module _ (h : Typing) where
-  pub on-first : (s : Simple) → (after (resting h) (begins s) ≡ typedTo (resting h) (setType h (typeOf s))) × (eqb (typeOf s) 0 ≡ false)
-  unfolding after amid beginE begun
-  on-first (point p) = (refl, refl)
-  on-first (lineString l) = (refl, refl)
-  on-first (polygon rs) = (refl, refl)
-  on-first (multiPoint cs) = (refl, refl)
-  on-first (multiLineString ls) = (refl, refl)
-  on-first (multiPolygon ps) = (refl, refl)
-  on-first (circularString l) = (refl, refl)
-  on-first (compoundCurve ss) = (refl, refl)
-  on-first (curvePolygon cs) = (refl, refl)
-  on-first (multiCurve cs) = (refl, refl)
-  on-first (multiSurface ss) = (refl, refl)
-  on-first (polyhedralSurface ps) = (refl, refl)
-  on-first (tin ts) = (refl, refl)
-  on-first (triangle l) = (refl, refl)
+  pub record First (s : Simple) : Type 0 where
+    pub set : after (resting h) (begins s) ≡ typedTo (resting h) (setType h (typeOf s))
+    pub refused : nay (resting h) (begins s) ≡ typedNumber (setType h (typeOf s))
+    pub known : eqb (typeOf s) 0 ≡ false
+
+  pub on-first : (s : Simple) → First s
+  unfolding after nay amid beginE begun
+  on-first (point p) = record { set = refl; refused = refl; known = refl }
+  on-first (lineString l) = record { set = refl; refused = refl; known = refl }
+  on-first (polygon rs) = record { set = refl; refused = refl; known = refl }
+  on-first (multiPoint cs) = record { set = refl; refused = refl; known = refl }
+  on-first (multiLineString ls) = record { set = refl; refused = refl; known = refl }
+  on-first (multiPolygon ps) = record { set = refl; refused = refl; known = refl }
+  on-first (circularString l) = record { set = refl; refused = refl; known = refl }
+  on-first (compoundCurve ss) = record { set = refl; refused = refl; known = refl }
+  on-first (curvePolygon cs) = record { set = refl; refused = refl; known = refl }
+  on-first (multiCurve cs) = record { set = refl; refused = refl; known = refl }
+  on-first (multiSurface ss) = record { set = refl; refused = refl; known = refl }
+  on-first (polyhedralSurface ps) = record { set = refl; refused = refl; known = refl }
+  on-first (tin ts) = record { set = refl; refused = refl; known = refl }
+  on-first (triangle l) = record { set = refl; refused = refl; known = refl }
 
 set-same : (type c : ℕ) (detect promote : Bool) → setType (normal type c detect promote) type ≡ Set (normal type c detect promote)
 unfolding setType
 set-same type c detect promote = rw (eq-eqb type type refl)
 
-set-unknown : (type c : ℕ) (detect promote : Bool) → eqb type 0 ≡ false → promoted (normal 0 c detect promote) type ≡ false → setType (normal 0 c detect promote) type ≡ Set (normal (cond detect type 0) (cond detect c type) detect promote)
+set-unknown : (type c : ℕ) (detect promote : Bool) → eqb type 0 ≡ false → (promote && (eqb type 2 || eqb type 3)) ≡ false → setType (normal 0 c detect promote) type ≡ Set (normal (cond detect type 0) (cond detect c type) detect promote)
 unfolding setType unknownType collected
 set-unknown type c true promote e f = rw (e, f)
 set-unknown type c false promote e f = rw (e, f)
 
+-- a LineString or Polygon
+abbrev pub liftable : ℕ → Bool
+liftable type = eqb type 2 || eqb type 3
+
 -- the geometry's type is declared, or none is and it is not promoted
-pub data Starts (h : Typing) (s : Simple) : Type 0 where
-  declared : h .declared ≡ typeOf s → Starts h s
-  unknown : h .declared ≡ 0 → promoted h (typeOf s) ≡ false → Starts h s
+pub data Starts (d : ℕ) (promote : Bool) (s : Simple) : Type 0 where
+  declared : d ≡ typeOf s → Starts d promote s
+  unknown : d ≡ 0 → (promote && liftable (typeOf s)) ≡ false → Starts d promote s
 
 -- what is declared after a geometry of a type
 abbrev pub thenDeclared : ℕ → Bool → ℕ → ℕ
@@ -201,20 +210,20 @@ pub record Typed (d c : ℕ) (detect promote : Bool) (s : Simple) : Type 0 where
   pub begun : after (resting (normal d c detect promote)) (begins s) ≡ resting (normal (thenDeclared d detect (typeOf s)) current detect promote)
   pub type : cond (eqb (thenDeclared d detect (typeOf s)) 0) current (thenDeclared d detect (typeOf s)) ≡ typeOf s
 
-pub starts : (d c : ℕ) (detect promote : Bool) (s : Simple) → Starts (normal d c detect promote) s → Typed d c detect promote s
+pub starts : (d c : ℕ) (detect promote : Bool) (s : Simple) → Starts d promote s → Typed d c detect promote s
 unfolding amid
 starts d c detect promote s (declared e) =
     let f = on-first (normal d c detect promote) s in
-    record { current = c; begun = f .0 ∙ rw (e, f .1, set-same (typeOf s) c detect promote); type = rw (e, f .1, f .1) }
+    record { current = c; begun = f .set ∙ rw (e, f .known, set-same (typeOf s) c detect promote); type = rw (e, f .known, f .known) }
 starts d c detect promote s (unknown e p) =
     let f = on-first (normal d c detect promote) s in
-    record { current = cond detect c (typeOf s); begun = f .0 ∙ rw (e, set-unknown (typeOf s) c detect promote (f .1) p); type = rw e (go detect) }
+    record { current = cond detect c (typeOf s); begun = f .set ∙ rw (e, set-unknown (typeOf s) c detect promote (f .known) p); type = rw e (go detect) }
   where
     go : (detect : Bool) → cond (eqb (cond detect (typeOf s) 0) 0) (cond detect c (typeOf s)) (cond detect (typeOf s) 0) ≡ typeOf s
-    go true = rw (on-first (normal d c true promote) s .1)
+    go true = rw (on-first (normal d c true promote) s .known)
     go false = refl
 
-module _ (F : Flags) (d c : ℕ) (detect promote : Bool) (s : Simple) (k : Held) (st : Starts (normal d c detect promote) s) (q : Writable F s k) where
+module _ (F : Flags) (d c : ℕ) (detect promote : Bool) (s : Simple) (k : Held) (st : Starts d promote s) (q : Writable F s k) where
   abbrev over : Writer
   over = afterAll (resting (normal d c detect promote)) (simpleOf F s 0 [])
 

@@ -53,4 +53,4 @@ module _ (F : Flags) where
   leastOf (multiSurface ss) = 0
   leastOf (polyhedralSurface ps) = ofPolygons ps
   leastOf (tin ts) = ofLines ts
-  leastOf (triangle l) = ofPairs l
+  leastOf (triangle l) = ofLines (l ∷ [])

@@ -1,10 +1,14 @@
 pub mod Size
+pub mod Reached
+pub mod Sound
 pub mod Least
 pub mod Said
 pub mod Values
 pub mod Pairs
 pub mod Lines
+pub mod Sums
 pub mod Root
-pub mod SizeLaws
-pub mod Sound
-pub mod Bound
+pub mod Below
+pub mod Above
+pub mod Written
+pub mod Smallest

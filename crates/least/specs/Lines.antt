@@ -1,13 +1,13 @@
 -- A record that is read as lines, or triangles, has their words, and an end for each where there are two or more.
-use mathlib.Core.Path.{_≡_, refl, sym, _∙_}
+use mathlib.Core.Path.{_≡_, refl, _∙_}
 use mathlib.Core.Bool.{Bool, true, false, cond}
 use mathlib.Core.List.{List, [], _∷_, append-nil}
 use mathlib.Core.Option.{Option, none, some}
-use Prim.Native.Nat.{ℕ, suc, _+_, _-_, _≤_, _<_}
+use Prim.Native.Nat.{ℕ, suc, _+_, _-_, _≤_}
 use native.Mathlib.Omega.{arith}
 use lib.ListN.{length}
 use lib.Dec.{leb, ltb}
-use borrow.Author.Tests.{ltb-false, leb-true}
+use borrow.Author.Tests.{ltb-false}
 use Rattle.laws.specs.Every.{neither}
 use Rattle.laws.specs.Script.{Script, stop, say, _⨟_}
 use Rattle.laws.specs.Framed.{framed, seq-seq}
@@ -16,8 +16,8 @@ use Rattle.kinds.specs.declared.event.Event.{Event}
 use Rattle.kinds.specs.declared.flags.Flags.{Flags}
 use Rattle.lines.specs.Coords.{Lanes, Coords, multi, betweenS}
 use Rattle.lines.specs.Lines.{single, badEnd, stretchS, linesS, flatS, ringsS, stretchesS, ifThere, multiLineS, triangleAt, trianglesS, triangleS, tinS}
-use Rattle.format.specs.Geometry.{Coord, Line}
-use Rattle.format.specs.Events.{each, group, coordOf, lineOf, triangleOf}
+use Rattle.format.specs.Geometry.{Line}
+use Rattle.format.specs.Events.{each, group, lineOf, triangleOf}
 use Rattle.format.specs.Format.{joined}
 use Rattle.format.specs.Told.{told, then-done, framed-then}
 use Rattle.least.specs.Least.{ends}
@@ -116,17 +116,17 @@ module _ (F : Flags) (o : Option (List ℕ)) (L : Lanes) where
       room-join F o L before e l (joined ls) (s .end-is) (s .room) (of-triangles es e (i + 1) t ls (j + 1) k (omega arith) (s .after))
 
   -- the whole list as one
-  of-only : (tagged : Bool) (es : List ℕ) (t : Script Event) (l : Line) (k : List Event) → (t ≡ told (triangleOf F tagged l 0 k) → ⊥) → ifThere o (stretchesS 17 tagged 0 C es) ⨟ t ≡ told (triangleOf F tagged l 0 k) → Room F o L 0 l
-  of-only tagged es t l k u h = rw append-nil at (of-stretches 17 tagged 0 es t (l ∷ []) 0 k (there-said _ t _ _ u h) .room)
+  of-only : (tagged : Bool) (es : List ℕ) (t : Script Event) (l : Line) (k : List Event) → (t ≡ told (triangleOf F tagged l 0 k) → ⊥) → ifThere o (stretchesS 17 tagged 0 C es) ⨟ t ≡ told (triangleOf F tagged l 0 k) → Room F o L 0 (joined (l ∷ []))
+  of-only tagged es t l k u h = of-stretches 17 tagged 0 es t (l ∷ []) 0 k (there-said _ t _ _ u h) .room
 
-  pub of-one-triangle : (es : List ℕ) (l : Line) → triangleS C es true 0 ≡ told (triangleOf F true l 0 []) → Room F o L 0 l
+  pub of-one-triangle : (es : List ℕ) (l : Line) → triangleS C es true 0 ≡ told (triangleOf F true l 0 []) → Room F o L 0 (joined (l ∷ []))
   unfolding triangleS trianglesS
   of-one-triangle es l h = go es (single es) (then-done _ ∙ h)
     where
-      go : (fs : List ℕ) (one : Bool) → cond one (ifThere o (stretchesS 17 true 0 C es)) (trianglesS C fs true 0 0) ⨟ stop 0 ≡ told (triangleOf F true l 0 []) → Room F o L 0 l
+      go : (fs : List ℕ) (one : Bool) → cond one (ifThere o (stretchesS 17 true 0 C es)) (trianglesS C fs true 0 0) ⨟ stop 0 ≡ told (triangleOf F true l 0 []) → Room F o L 0 (joined (l ∷ []))
       go fs true h = of-only true es (stop 0) l [] (λ e. mute e) h
       go [] false h = unfold _⨟_ in mute h
-      go (f ∷ fs) false h = of-triangle true 0 f 0 _ l 0 _ (rw seq-seq at h) .room
+      go (f ∷ fs) false h = rw append-nil (of-triangle true 0 f 0 _ l 0 _ (rw seq-seq at h) .room)
 
   pub of-tin : (es : List ℕ) (ls : List Line) → tinS C es 0 ≡ told (group 16 false (triangleOf F false) ls 0 []) → Room F o L 0 (joined ls) × (ends ls ≤ length es)
   unfolding tinS triangleS
@@ -136,7 +136,7 @@ module _ (F : Flags) (o : Option (List ℕ)) (L : Lanes) where
       go true [] h = let z : _≡_ {A = ℕ} 1 0 = unfold beginE in sizes h in absurd (omega arith)
       go true (l ∷ []) h =
           let no-begin : say (endE 16 false 0) (stop 0) ≡ told (triangleOf F false l 0 (endE 16 false 0 ∷ [])) → ⊥ = λ e. let z : _≡_ {A = ℕ} 48 17 = unfold beginE endE in kinds e in omega arith in
-          (rw append-nil (of-only false es _ l _ no-begin (rest h)), omega arith)
+          (of-only false es _ l _ no-begin (rest h), omega arith)
       go true (l ∷ (n ∷ ls)) h = let z : 1 ≡ suc (suc (length ls)) = unfold beginE in sizes h in absurd (omega arith)
       go false ls h =
           let z : length es ≡ length ls = unfold beginE in sizes h in

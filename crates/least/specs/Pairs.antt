@@ -10,15 +10,14 @@ use Rattle.laws.specs.Script.{Script, stop, say, _⨟_}
 use Rattle.kinds.specs.Event.{endE, xyE, coordinateE}
 use Rattle.kinds.specs.declared.event.Event.{Event}
 use Rattle.kinds.specs.declared.flags.Flags.{Flags}
-use Rattle.lines.specs.Coords.{Lanes, tailOf, dropped, tails, multi, coordE, coordsS, betweenS}
+use Rattle.lines.specs.Coords.{Lanes, dropped, tails, multi, coordE, coordsS, betweenS}
 use Rattle.lines.specs.Lines.{flatO}
 use Rattle.format.specs.Geometry.{Coord}
 use Rattle.format.specs.Events.{shown, each, seenAs, coordOf}
 use Rattle.format.specs.Told.{told, framed-then}
 use Rattle.least.specs.Size.{count}
-use Rattle.least.specs.Least.{there}
 use Rattle.least.specs.Said.{rest, kinds, mute}
-use Rattle.least.specs.Values.{Value, laneIn, shownIn, tally, tally-most, tally-append, of-tails, count-dropped, pair-next, pair-gives}
+use Rattle.least.specs.Values.{Value, laneIn, tally, tally-most, tally-append, of-tails, count-dropped, pair-next, pair-gives}
 
 -- ---- the pairs of a list
 pair-kind : (F : Flags) (c : Coord) (n : ℕ) → 64 ≤ seenAs F c n .kind

@@ -12,7 +12,7 @@ use Rattle.kinds.specs.Event.{beginE, endE}
 use Rattle.kinds.specs.declared.event.Event.{Event}
 use Rattle.kinds.specs.declared.flags.Flags.{Flags}
 use Rattle.store.specs.Lists.{Rec}
-use Rattle.lines.specs.Coords.{Lanes, coordsOf}
+use Rattle.lines.specs.Coords.{coordsOf}
 use Rattle.lines.specs.Lines.{orNone, flatS, polygonS, pointS}
 use Rattle.reader.specs.Reading.{partsS, spanS, found, polygonPart, kindS, geometryS, rootS}
 use Rattle.format.specs.Geometry.{Coord, Line, Rings, Simple, point, lineString, polygon, multiPoint, multiLineString, multiPolygon, circularString, compoundCurve, curvePolygon, multiCurve, multiSurface, polyhedralSurface, tin, triangle, typeOf}
@@ -20,20 +20,12 @@ use Rattle.format.specs.Events.{each, group, coordOf, lineOf, simpleOf}
 use Rattle.format.specs.Format.{joined}
 use Rattle.format.specs.Told.{told, then-done}
 use Rattle.least.specs.Size.{count, numbers, weight}
+use Rattle.least.specs.Sums.{weights, spanWeight}
 use Rattle.least.specs.Least.{sum, words, ofPairs, ends, ofLines, leastOf}
 use Rattle.least.specs.Said.{rest, sizes, mute}
 use Rattle.least.specs.Values.{zV, mV, tV, tmV, words-tally, count-seen}
 use Rattle.least.specs.Pairs.{end-low, Room, of-between, of-flat}
 use Rattle.least.specs.Lines.{of-stretches, of-multi, of-one-triangle, of-tin}
-
--- c records from number n on
-abbrev pub weights : (ℕ → Option Rec) → ℕ → ℕ → ℕ
-weights get zero n = 0
-weights get (suc c) n = weight (get n) + weights get c (n + 1)
-
-abbrev pub spanWeight : (ℕ → Option Rec) → Option (ℕ × ℕ) → ℕ
-spanWeight get none = 0
-spanWeight get (some p) = weights get (p .1) (p .0)
 
 module _ (F : Flags) where
   room-numbers : (r : Rec) (cs : List Coord) (c : ℕ) → Room F (r .xy) (coordsOf F r .lanes) 0 cs → c ≤ count (r .ends) → sum (words F) cs + c ≤ numbers r
@@ -100,7 +92,7 @@ module _ (F : Flags) where
   of-root (multiSurface ss) get r h = omega arith
   of-root (polyhedralSurface ps) get r h = omega (arith, of-span get 14 (r .parts) 15 ps h)
   of-root (tin ts) get r h = let s = of-tin F (r .xy) (coordsOf F r .lanes) (orNone (r .ends)) ts h in omega (arith, lines-least r ts (s .0) (s .1))
-  of-root (triangle l) get r h = omega (arith, pairs-least r l (of-one-triangle F (r .xy) (coordsOf F r .lanes) (orNone (r .ends)) l h))
+  of-root (triangle l) get r h = omega (arith, lines-least r (l ∷ []) (of-one-triangle F (r .xy) (coordsOf F r .lanes) (orNone (r .ends)) l h) (omega arith))
 
   -- a geometry has an event
   pub some-event : {A : Type 0} {c : ℕ} (s : Simple) → stop c ≡ told (simpleOf F s 0 []) → A

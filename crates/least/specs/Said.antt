@@ -1,9 +1,8 @@
 -- Scripts that are equal say the same, event by event.
-use mathlib.Core.Path.{_≡_, refl, ap}
-use Prim.Native.Nat.{ℕ, zero, suc}
+use mathlib.Core.Path.{_≡_, ap}
+use Prim.Native.Nat.{ℕ}
 use native.Mathlib.Omega.{arith}
-use Rattle.laws.specs.Script.{Script, stop, say, one, _⨟_}
-use Rattle.laws.specs.Framed.{framed, seq-seq}
+use Rattle.laws.specs.Script.{Script, stop, say}
 use Rattle.kinds.specs.declared.event.Event.{Event}
 
 module _ {a b : Event} {s t : Script Event} (h : say a s ≡ say b t) where

@@ -1,10 +1,9 @@
 -- Every table and pools whatsoever: parts stand above their record and within 4,096 records, so a tree has a size.
 use mathlib.Core.Path.{_≡_, refl, ap, _∙_}
 use mathlib.Core.List.{List}
-use mathlib.Core.Option.{Option, none, some}
+use mathlib.Core.Option.{some}
 use Prim.Native.Nat.{ℕ, _+_, _<_, _≤_}
 use native.Mathlib.Omega.{arith}
-use Rattle.kinds.specs.declared.geometry.Geometry.{Geometry}
 use Rattle.kinds.specs.declared.geometry.Judged.{Judged}
 use Rattle.kinds.specs.declared.geometry.Judged.the-variants.{Good, Bad}
 use Rattle.kinds.specs.declared.geometry.Span.{Span}
@@ -22,9 +21,9 @@ parts-bound : (s : Span) (n lent : ℕ) (p : ℕ × ℕ) → InTable s n lent �
 parts-bound Absent n lent p t e = let z : _≡_ {A = ℕ} 0 1 = cc in absurd (omega arith)
 parts-bound (Stretch start c) n lent p t e = let q : (start, c) ≡ p = cc in rw (← q) (t .0, t .2)
 
-pub every-table-sound : (T : List ℕ) (P : Pools) → Sound 4096 (recordWith T P)
+pub table-sound : (T : List ℕ) (P : Pools) → Sound 4096 (recordWith T P)
 unfolding Sound recordWith
-every-table-sound T P n r p e q = go (recordAt T (lentOf P) n) refl e
+table-sound T P n r p e q = go (recordAt T (lentOf P) n) refl e
   where
     go : (j : Judged) → recordAt T (lentOf P) n ≡ j → seen P j ≡ some r → (n < p .0) × (p .0 + p .1 ≤ 4096)
     go Bad a e = let z : _≡_ {A = ℕ} 0 1 = cc in absurd (omega arith)

@@ -1,5 +1,5 @@
 -- z, m, t and tm, said once over the four: a list gives up a word for each value that is said.
-use mathlib.Core.Path.{_≡_, refl, ap, _∙_}
+use mathlib.Core.Path.{_≡_, refl, ap}
 use mathlib.Core.Bool.{Bool, true, false, cond, _||_}
 use mathlib.Core.List.{List, [], _∷_, _++_}
 use mathlib.Core.Option.{Option, none, some}
@@ -34,11 +34,20 @@ listIn r mV = r .m
 listIn r tV = r .t
 listIn r tmV = r .tm
 
+abbrev pub flagIn : Flags → Value → Bool
+flagIn F zV = F .z
+flagIn F mV = F .m
+flagIn F tV = F .t
+flagIn F tmV = F .tm
+
+abbrev pub valueIn : Coord → Value → Option ℕ
+valueIn c zV = c .z
+valueIn c mV = c .m
+valueIn c tV = c .t
+valueIn c tmV = c .tm
+
 abbrev pub shownIn : Flags → Coord → Value → Option ℕ
-shownIn F c zV = shown (F .z) (c .z)
-shownIn F c mV = shown (F .m) (c .m)
-shownIn F c tV = shown (F .t) (c .t)
-shownIn F c tmV = shown (F .tm) (c .tm)
+shownIn F c v = shown (flagIn F v) (valueIn c v)
 
 -- ---- how many of the pairs are shown with a value
 abbrev pub tally : Flags → Value → List Coord → ℕ

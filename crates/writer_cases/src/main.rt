@@ -1,14 +1,14 @@
 // Runs the writer on the rows of calls of standard input, which vectors/writer.py makes and lays out, and counts what differs.
-mod call;
-mod expected;
-mod memory;
 
-use memory::Lengths;
-use memory::lesser;
 use replay::Frame;
 use replay::Tally;
 use writer::State;
 use writer::Wrote;
+use writer_rows::call;
+use writer_rows::expected;
+use writer_rows::memory;
+use writer_rows::memory::Lengths;
+use writer_rows::memory::lesser;
 
 const ROW: usize = 0;
 

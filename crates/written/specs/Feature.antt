@@ -43,16 +43,16 @@ pub whole-same : (k k′ : Mem) → SameLengths k k′ → tableGood (k .table) 
 whole-same k k′ n h = rw (n .table) h
 
 module _ (s : State) (k : Mem) (w : Writer) (l : List ℕ) (es : List Event) (ok : finishesIn s k es ≡ true) (r : Reached s k w l) where
-  abbrev end : State
+  abbrev pub end : State
   end = fedTo s k es
 
-  abbrev left : Mem
+  abbrev pub left : Mem
   left = fedMem s k es
 
   so-far : Fed s k w l es
   so-far = fed es s k w l (both _ _ ok .0) r
 
-  done : finishCall end left .wrote .number ≡ 0
+  pub done : finishCall end left .wrote .number ≡ 0
   unfolding finishCall
   done = rw (so-far .lengths .table, lent-same k left (so-far .lengths)) (eqb-true _ 0 (both (takes s (recordsLent (k .table)) (lentOf (k .pools)) es) _ ok .1))
 
@@ -61,7 +61,7 @@ module _ (s : State) (k : Mem) (w : Writer) (l : List ℕ) (es : List Event) (ok
       let n = call-lengths end left finishC done in
       record { table = n .table ∙ so-far .lengths .table; pools = λ m. n .pools m ∙ so-far .lengths .pools m }
 
-  finished-is : finishCall end left .wrote .state ≡ finished end
+  pub finished-is : finishCall end left .wrote .state ≡ finished end
   unfolding finishCall
   finished-is = ap (λ r. r .state) (took-finish end left done .is)
 
@@ -77,11 +77,11 @@ module _ (s : State) (k : Mem) (w : Writer) (l : List ℕ) (es : List Event) (ok
 
   -- and the next feature begins
   module _ (goes : decideNext (finished end) (recordsLent (k .table)) (lentOf (k .pools)) .number ≡ 0) where
-    goes-on : nextCall (finished end) (finishedMem s k es) .wrote .number ≡ 0
+    pub goes-on : nextCall (finished end) (finishedMem s k es) .wrote .number ≡ 0
     unfolding nextCall
     goes-on = rw (lengths .table, lent-same k (finishedMem s k es) lengths) goes
 
-    renewed-is : nextCall (finished end) (finishedMem s k es) .wrote .state ≡ renewed (finished end)
+    pub renewed-is : nextCall (finished end) (finishedMem s k es) .wrote .state ≡ renewed (finished end)
     unfolding nextCall
     renewed-is = ap (λ r. r .state) (took-next (finished end) (finishedMem s k es) goes-on .is)
 

@@ -27,12 +27,12 @@ pub agrees-self : (s : State) (k : Mem) → Agrees s k k
 agrees-self s k = record { pools = λ n. refl; table = λ i a b. refl }
 
 -- ---- an event that is well-formed, with fields that fit their bytes
-abbrev sized : Event → Bool
+abbrev pub sized : Event → Bool
 sized e =
     ltb (e .size) 4294967296 && ltb (e .idx) 4294967296 && ltb (e .x) 18446744073709551616 && ltb (e .y) 18446744073709551616
     && ltb (e .z) 18446744073709551616 && ltb (e .m) 18446744073709551616 && ltb (e .t) 18446744073709551616 && ltb (e .tm) 18446744073709551616
 
-sized-is : (e : Event) → sized e ≡ true → EventSized e
+pub sized-is : (e : Event) → sized e ≡ true → EventSized e
 sized-is e h =
     let tm = both _ (ltb (e .tm) 18446744073709551616) h in
     let t = both _ (ltb (e .t) 18446744073709551616) (tm .0) in

@@ -3,8 +3,8 @@ use Prim.Native.Nat.{_-_, _≤_}
 use native.Mathlib.Omega.{arith}
 use lib.ListN.{length, length-set}
 use borrow.Author.Needs.{needs}
-use Rattle.writer_cases.proofs.memory.lay_words.Statement.{statement}
-use Rattle.writer_cases.proofs.memory.lay_words.Tie as tie
+use Rattle.writer_rows.proofs.memory.lay_ends.Statement.{statement}
+use Rattle.writer_rows.proofs.memory.lay_ends.Tie as tie
 
 abbrev Inv-loop : tie.InvT-loop
 Inv-loop words₀ i₀ words i =
@@ -13,12 +13,13 @@ Inv-loop words₀ i₀ words i =
 abbrev μ-loop : tie.MeasureT-loop
 μ-loop words₀ i₀ words i = length words - i
 
-pub lay-words-spec : {M : Type 1} → statement M
-lay-words-spec =
+pub lay-ends-spec : {M : Type 1} → statement M
+lay-ends-spec =
     tie.close
     (tie.spec
     Inv-loop
     μ-loop
+    (λ c. search needs)
     (λ c. search needs)
     (λ c. search needs)
     (λ c. search needs)

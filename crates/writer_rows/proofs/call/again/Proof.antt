@@ -1,8 +1,8 @@
 use mathlib.Core.Path.{_≡_}
 use lib.ListN.{length}
 use borrow.Author.Needs.{needs}
-use Rattle.writer_cases.proofs.call.again.Statement.{statement}
-use Rattle.writer_cases.proofs.call.again.Tie as tie
+use Rattle.writer_rows.proofs.call.again.Statement.{statement}
+use Rattle.writer_rows.proofs.call.again.Tie as tie
 
 abbrev Inv-loop : tie.InvT-loop
 Inv-loop case bytes table₀ xy₀ ends₀ z₀ m₀ t₀ tm₀ wrote₀ left₀ table xy ends z m t tm wrote left =

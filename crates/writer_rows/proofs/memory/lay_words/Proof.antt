@@ -3,24 +3,24 @@ use Prim.Native.Nat.{_-_, _≤_}
 use native.Mathlib.Omega.{arith}
 use lib.ListN.{length, length-set}
 use borrow.Author.Needs.{needs}
-use Rattle.writer_cases.proofs.call.fill.Statement.{statement}
-use Rattle.writer_cases.proofs.call.fill.Tie as tie
+use Rattle.writer_rows.proofs.memory.lay_words.Statement.{statement}
+use Rattle.writer_rows.proofs.memory.lay_words.Tie as tie
 
 abbrev Inv-loop : tie.InvT-loop
-Inv-loop room₀ bytes i₀ room i =
-    (i ≤ length room) × (length room ≡ length room₀)
+Inv-loop words₀ i₀ words i =
+    (i ≤ length words) × (length words ≡ length words₀)
 
 abbrev μ-loop : tie.MeasureT-loop
-μ-loop room₀ bytes i₀ room i = length room - i
+μ-loop words₀ i₀ words i = length words - i
 
-pub fill-spec : {M : Type 1} → statement M
-fill-spec =
+pub lay-words-spec : {M : Type 1} → statement M
+lay-words-spec =
     tie.close
     (tie.spec
     Inv-loop
     μ-loop
     (λ c. search needs)
-    (λ c κs. search needs)
+    (λ c. search needs)
     (λ c. search needs)
     (λ c. search needs)
     (λ c. simp length-set (omega arith))

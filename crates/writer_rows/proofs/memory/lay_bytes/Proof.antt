@@ -3,23 +3,22 @@ use Prim.Native.Nat.{_-_, _≤_}
 use native.Mathlib.Omega.{arith}
 use lib.ListN.{length, length-set}
 use borrow.Author.Needs.{needs}
-use Rattle.writer_cases.proofs.memory.lay_ends.Statement.{statement}
-use Rattle.writer_cases.proofs.memory.lay_ends.Tie as tie
+use Rattle.writer_rows.proofs.memory.lay_bytes.Statement.{statement}
+use Rattle.writer_rows.proofs.memory.lay_bytes.Tie as tie
 
 abbrev Inv-loop : tie.InvT-loop
-Inv-loop words₀ i₀ words i =
-    (i ≤ length words) × (length words ≡ length words₀)
+Inv-loop bytes₀ i₀ bytes i =
+    (i ≤ length bytes) × (length bytes ≡ length bytes₀)
 
 abbrev μ-loop : tie.MeasureT-loop
-μ-loop words₀ i₀ words i = length words - i
+μ-loop bytes₀ i₀ bytes i = length bytes - i
 
-pub lay-ends-spec : {M : Type 1} → statement M
-lay-ends-spec =
+pub lay-bytes-spec : {M : Type 1} → statement M
+lay-bytes-spec =
     tie.close
     (tie.spec
     Inv-loop
     μ-loop
-    (λ c. search needs)
     (λ c. search needs)
     (λ c. search needs)
     (λ c. search needs)

@@ -1,8 +1,8 @@
 use Prim.Native.Nat.{_-_, _≤_}
 use lib.ListN.{length}
 use borrow.Author.Needs.{needs}
-use Rattle.writer_cases.proofs.memory.with_ends.Statement.{statement}
-use Rattle.writer_cases.proofs.memory.with_ends.Tie as tie
+use Rattle.writer_rows.proofs.memory.with_words.Statement.{statement}
+use Rattle.writer_rows.proofs.memory.with_words.Tie as tie
 
 abbrev Inv-loop : tie.InvT-loop
 Inv-loop sum words mix₀ i₀ mix i =
@@ -11,8 +11,8 @@ Inv-loop sum words mix₀ i₀ mix i =
 abbrev μ-loop : tie.MeasureT-loop
 μ-loop sum words mix₀ i₀ mix i = length words - i
 
-pub with-ends-spec : {M : Type 1} → statement M
-with-ends-spec =
+pub with-words-spec : {M : Type 1} → statement M
+with-words-spec =
     tie.close
     (tie.spec
     Inv-loop
@@ -20,7 +20,6 @@ with-ends-spec =
     (λ c. search needs)
     (λ c. search needs)
     (λ c. search needs)
-    (λ c κs. search needs)
     (λ c κs. search needs)
     (λ c. search needs)
     (λ c. search needs)
