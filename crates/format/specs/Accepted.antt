@@ -16,7 +16,7 @@ use Rattle.format.specs.Geometry.{Simple, multiLineString, multiPolygon,
 use Rattle.format.specs.Events.{begins}
 use Rattle.format.specs.Writable.{Held, lines, polygons, Writable, a-point, a-line, a-polygon, many-points, many-lines, many-polygons, an-arc, a-surface, a-tin, a-triangle}
 use Rattle.format.specs.Writes.{normal, resting, on-first, liftable, declared, unknown}
-use Rattle.format.specs.Promoted.{Lifts, line, rings}
+use Rattle.format.specs.Promoted.{line, rings}
 use Rattle.format.specs.Rows.{Keeps, itself, multi}
 
 data OneOf (a b c : Bool) : Type 0 where

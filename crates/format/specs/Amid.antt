@@ -1,13 +1,12 @@
 -- The writer in the midst of a geometry: what is pending is the coordinates and ends so far.
 use mathlib.Core.Path.{_≡_, refl, sym, _∙_}
-use mathlib.Core.Bool.{Bool, true, false, cond, _||_}
+use mathlib.Core.Bool.{Bool, true, false, cond}
 use mathlib.Core.List.{List, [], _∷_, _++_, append-assoc, append-nil, map}
 use mathlib.Core.Option.{Option, none, some}
-use Prim.Native.Nat.{ℕ, _+_, _/_, _%_}
-use native.Mathlib.Omega.{arith}
+use Prim.Native.Nat.{ℕ, _+_}
 use lib.ListN.{length, length-append}
 use lib.Dec.{ltb, eqb}
-use Rattle.laws.specs.Every.{never}
+use Rattle.laws.specs.Every.{never, neither}
 use Rattle.kinds.specs.Event.{isTaggedType, bitSet, beginE, endE, xyE, coordinateE}
 use Rattle.kinds.specs.declared.event.Event.{Event}
 use Rattle.kinds.specs.declared.flags.Flags.{Flags}
@@ -16,7 +15,7 @@ use Rattle.lines.specs.Coords.{multi, is, or0, bits, coordE}
 use Rattle.writer.specs.declared.state.Typing.{Typing}
 use Rattle.writer.specs.State.{typing}
 use Rattle.writer.specs.Calls.{begun}
-use Rattle.written.specs.Writer.{Writer, pushed, longer, partOf, finishPart, coordinate, endPushed, lineEnd, polygonEnd, after, afterAll}
+use Rattle.written.specs.Writer.{Writer, pushed, partOf, finishPart, coordinate, endPushed, lineEnd, polygonEnd, after, afterAll}
 use Rattle.format.specs.Geometry.{Coord, Line, Rings}
 use Rattle.format.specs.Events.{shown, each, group, seenAs, coordOf, lineOf, triangleOf}
 use Rattle.format.specs.Format.{xyOf, joined, endsFrom}
@@ -64,14 +63,11 @@ shown-is false none e = refl
 shown-is false (some v) e = absurd (never (cc))
 
 no-flags : (F : Flags) → multi F ≡ false → (F .z ≡ false) × (F .m ≡ false) × (F .t ≡ false) × (F .tm ≡ false)
-no-flags F e = go (F .z) (F .m) (F .t) (F .tm) e
-  where
-    go : (a b c d : Bool) → (a || b || c || d) ≡ false → (a ≡ false) × (b ≡ false) × (c ≡ false) × (d ≡ false)
-    go false false false false e = (refl, refl, refl, refl)
-    go true b c d e = absurd (never (cc))
-    go false true c d e = absurd (never (cc))
-    go false false true d e = absurd (never (cc))
-    go false false false true e = absurd (never (cc))
+no-flags F e =
+    let tm = neither _ (F .tm) e in
+    let t = neither _ (F .t) (tm .0) in
+    let m = neither (F .z) (F .m) (t .0) in
+    (m .0, m .1, t .1, tm .1)
 
 module _ (h : Typing) (cs : List Coord) (es : List ℕ) (parts : List Rec) (c : Coord) (i : ℕ) where
   on-full : after (amid h cs es parts) (coordE (c .x) (c .y) (c .z) (c .m) (c .t) (c .tm) i) ≡ amid h (cs ++ (c ∷ [])) es parts

@@ -2,7 +2,7 @@
 use mathlib.Core.Path.{_≡_, refl}
 use mathlib.Core.Bool.{false}
 use mathlib.Core.List.{List, [], _∷_}
-use mathlib.Core.Option.{Option, none, some}
+use mathlib.Core.Option.{none, some}
 use Prim.Native.Nat.{ℕ}
 use native.Mathlib.Omega.{arith}
 use lib.ListN.{getElem?}
@@ -17,7 +17,7 @@ use Rattle.format.specs.Events.{simpleOf, eventsOf}
 use Rattle.format.specs.Format.{IsSegment, IsSurface, Is, Tree}
 use Rattle.format.specs.Told.{told}
 use Rattle.format.specs.Once.{OfType, ofPoint, ofLine, ofPolygon, ofLines, ofCompound, ofSurfaces, ofTin, ofTriangle}
-use Rattle.format.specs.NoMeaning.{Meaningless, meaningless, lastEnd, ends-count, heights-count, only-part}
+use Rattle.format.specs.NoMeaning.{Meaningless, meaningless, ends-count, heights-count, only-part}
 use Rattle.format.specs.Cases.{plain, high, here, there, raised, table, heights, empty, readUnder}
 
 -- ---- read, and meaning nothing
@@ -37,23 +37,23 @@ two-pairs = record { read = refl; no-meaning = meaningless twoPairs [] 1 refl re
     go s (ofPoint c) h = let e = h .xy in never (cc)
 
 -- no xy list: nothing, and that is done
-pub no-lines : Stray plain (empty 5 none ∷ []) 5 []
+pub lines-without-xy : Stray plain (empty 5 none ∷ []) 5 []
 unfolding readUnder
-no-lines = record { read = refl; no-meaning = meaningless (empty 5 none) [] 5 refl refl go }
+lines-without-xy = record { read = refl; no-meaning = meaningless (empty 5 none) [] 5 refl refl go }
   where
     go : (s : Simple) → OfType 5 s → Is (getElem? (empty 5 none ∷ [])) (empty 5 none) s → ⊥
     go s (ofLines ls) h = let e = h .coords .xy in never (cc)
 
-pub no-triangle : Stray plain (empty 17 none ∷ []) 17 []
+pub triangle-without-xy : Stray plain (empty 17 none ∷ []) 17 []
 unfolding readUnder
-no-triangle = record { read = refl; no-meaning = meaningless (empty 17 none) [] 17 refl refl go }
+triangle-without-xy = record { read = refl; no-meaning = meaningless (empty 17 none) [] 17 refl refl go }
   where
     go : (s : Simple) → OfType 17 s → Is (getElem? (empty 17 none ∷ [])) (empty 17 none) s → ⊥
     go s (ofTriangle l) h = let e = h .coords .xy in never (cc)
 
-pub no-tin : Stray plain (empty 16 none ∷ []) 16 (beginE 16 false 1 0 ∷ endE 16 false 0 ∷ [])
+pub tin-without-xy : Stray plain (empty 16 none ∷ []) 16 (beginE 16 false 1 0 ∷ endE 16 false 0 ∷ [])
 unfolding readUnder
-no-tin = record { read = refl; no-meaning = meaningless (empty 16 none) [] 16 refl refl go }
+tin-without-xy = record { read = refl; no-meaning = meaningless (empty 16 none) [] 16 refl refl go }
   where
     go : (s : Simple) → OfType 16 s → Is (getElem? (empty 16 none ∷ [])) (empty 16 none) s → ⊥
     go s (ofTin ts) h = let e = h .coords .xy in never (cc)

@@ -69,7 +69,7 @@ lane-seen false h = record { is = refl }
 -- ---- ends
 pub ends-length : (n : ℕ) (ls : List Line) → length (endsFrom n ls) ≡ length ls
 ends-length n [] = refl
-ends-length n (l ∷ ls) = ap suc (ends-length (n + length l) ls)
+ends-length n (l ∷ ls) = ap suc (ends-length _ ls)
 
 -- at most one end and one line; or an end for each of several
 pub data Cut (es : List ℕ) (ls : List Line) : Type 0 where

@@ -21,3 +21,6 @@ pub mod NoMeaning
 pub mod Cases
 pub mod DifferencesWritten
 pub mod DifferencesRead
+pub mod Properties
+pub mod PropertiesKept
+pub mod DifferencesProperties

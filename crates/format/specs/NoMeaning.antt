@@ -1,6 +1,6 @@
 -- Trees that mean nothing.
-use mathlib.Core.Path.{_≡_, refl, sym, ap, _∙_, subst}
-use mathlib.Core.Bool.{true, false, cond}
+use mathlib.Core.Path.{_≡_, sym, ap, _∙_, subst}
+use mathlib.Core.Bool.{true, false}
 use mathlib.Core.List.{List, [], _∷_, map}
 use mathlib.Core.Option.{Option, some}
 use Prim.Native.Nat.{ℕ, zero, suc, _+_, _*_, _≤_}
@@ -9,11 +9,10 @@ use lib.ListN.{length, getElem?, length-append, length-map}
 use lib.Dec.{eqb}
 use borrow.Author.Tests.{eqb-false}
 use Rattle.laws.specs.Script.{Script, stop, say}
-use Rattle.kinds.specs.declared.event.Event.{Event}
 use Rattle.kinds.specs.declared.flags.Flags.{Flags}
 use Rattle.store.specs.Lists.{Rec}
 use Rattle.reader.specs.Reading.{readS}
-use Rattle.format.specs.Geometry.{Coord, Line, Simple, simple, collection, Geometry, typeOf, depth}
+use Rattle.format.specs.Geometry.{Coord, Line, Simple, simple, collection, Geometry, depth}
 use Rattle.format.specs.Events.{eventsOf}
 use Rattle.format.specs.Format.{xyOf, joined, endsFrom, Coords, Lines, Each, Parts, Is, Means, Tree}
 use Rattle.format.specs.FormatLaws.{xy-length}

@@ -1,9 +1,9 @@
 -- Reading a record's own lists, where they mean coordinates or lines, tells of those.
 use mathlib.Core.Path.{_≡_, refl, ap}
-use mathlib.Core.Bool.{Bool, true, false, cond, _&&_}
+use mathlib.Core.Bool.{Bool, true, false, cond, and-false}
 use mathlib.Core.List.{List, [], _∷_, _++_, append-assoc, append-nil}
 use mathlib.Core.Option.{Option, none, some}
-use Prim.Native.Nat.{ℕ, _+_, _-_, _*_, _/_, _<_, _≤_}
+use Prim.Native.Nat.{ℕ, _+_, _-_, _*_, _<_, _≤_}
 use native.Mathlib.Omega.{arith}
 use lib.ListN.{length, take, drop, length-append}
 use lib.Seq.{take-at, drop-at}
@@ -42,10 +42,6 @@ pub record Shows (F : Flags) (C : Seen) (cs : List Coord) : Type 0 where
   many : C .many ≡ multi F
   xy : C .xy ≡ some (xyOf cs)
   fed : Fed F (C .lanes) cs
-
-and-false : (b : Bool) → (b && false) ≡ false
-and-false true = refl
-and-false false = refl
 
 stretch-good : (C : Seen) (before end i : ℕ) → before ≤ end → end < 2147483648 → stretchS C before end i ≡ framed (beginE 2 false (end - before) i) (betweenS (C .many) (C .xy) (C .lanes) before end) (endE 2 false i)
 unfolding stretchS

@@ -1,8 +1,8 @@
 -- What is written in a row is read back: by way of the format.
-use mathlib.Core.Path.{_≡_, refl, sym, _∙_}
+use mathlib.Core.Path.{_≡_, refl}
 use mathlib.Core.Bool.{Bool, true, false, cond, _||_}
 use mathlib.Core.List.{List, [], _∷_}
-use mathlib.Core.Option.{Option, none, some}
+use mathlib.Core.Option.{Option, none}
 use Prim.Native.Nat.{ℕ, _≤_}
 use native.Mathlib.Omega.{arith}
 use lib.ListN.{length}
@@ -21,7 +21,7 @@ use Rattle.written.specs.Writer.{Writer, fresh, rootOver, finish, tree, next}
 use Rattle.written.specs.Stands.{Agrees}
 use Rattle.written.specs.Rows.{Reached, row-stands}
 use Rattle.written.specs.Tree.{Holds, row-tree}
-use Rattle.format.specs.Geometry.{Coord, Line, Simple, point, lineString, polygon, multiPoint, multiPolygon, multiLineString, triangle, simple, collection, Geometry, typeOf, deep, flatly, simpleDepth, depth}
+use Rattle.format.specs.Geometry.{Coord, Simple, simple, collection, Geometry, deep, flatly, simpleDepth, depth}
 use Rattle.format.specs.Events.{eventsOf}
 use Rattle.format.specs.Format.{Tree}
 use Rattle.format.specs.Told.{told, Complete}

@@ -1,13 +1,13 @@
 -- Rows there are: heights and several types with nothing declared, promoted ones among them; a declared collection.
-use mathlib.Core.Path.{_≡_, refl}
-use mathlib.Core.Bool.{Bool, true, false}
+use mathlib.Core.Path.{refl}
+use mathlib.Core.Bool.{true, false}
 use mathlib.Core.List.{List, [], _∷_}
 use mathlib.Core.Option.{none, some}
 use Prim.Native.Nat.{ℕ}
 use Rattle.kinds.specs.declared.flags.Flags.{Flags}
 use Rattle.written.specs.Writer.{fresh}
 use Rattle.format.specs.Geometry.{Coord, Line, point, lineString, polygon, multiPoint, multiLineString, multiPolygon, triangle, simple, collection, Geometry}
-use Rattle.format.specs.Writable.{All, Has, lines, a-polygon, many-points, many-polygons}
+use Rattle.format.specs.Writable.{All, Has, a-polygon, many-points, many-polygons}
 use Rattle.format.specs.Writes.{unknown}
 use Rattle.format.specs.Promoted.{line}
 use Rattle.format.specs.Collections.{a-point, a-line, a-triangle, Elements, more, declared}

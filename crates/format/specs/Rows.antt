@@ -1,10 +1,9 @@
 -- A row of geometries, written one after another by one writer.
-use mathlib.Core.Path.{_≡_, refl, _∙_}
-use mathlib.Core.Bool.{Bool, true, false, cond}
+use mathlib.Core.Path.{_≡_, _∙_}
+use mathlib.Core.Bool.{Bool, true}
 use mathlib.Core.List.{List, [], _∷_}
 use mathlib.Core.Option.{Option}
 use Prim.Native.Nat.{ℕ}
-use lib.Dec.{eqb}
 use Rattle.kinds.specs.declared.flags.Flags.{Flags}
 use Rattle.store.specs.Lists.{Rec}
 use Rattle.written.specs.Writer.{Writer, fresh, afterAll, finish, tree, next}

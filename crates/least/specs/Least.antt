@@ -38,7 +38,7 @@ module _ (F : Flags) where
   abbrev pub ofPolygons : List Rings → ℕ
   ofPolygons ps = 1 + sum ofLines ps
 
-  -- no bound is claimed for the four types whose parts have parts or types of their own
+  -- 0, no bound, for the four types whose elements the writer makes no parts of
   unfoldable pub leastOf : Simple → ℕ
   leastOf (point c) = ofPairs (c ∷ [])
   leastOf (lineString l) = ofPairs l

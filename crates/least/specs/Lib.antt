@@ -2,6 +2,7 @@ pub mod Size
 pub mod Reached
 pub mod Sound
 pub mod Least
+pub mod Examples
 pub mod Said
 pub mod Values
 pub mod Pairs

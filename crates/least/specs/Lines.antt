@@ -64,16 +64,16 @@ module _ (F : Flags) (o : Option (List ℕ)) (L : Lanes) where
       (room-join F o L before e l (joined ls) (s .end-is) (s .room) (later .0), later .1)
 
   -- ---- a begin, lines, an end
-  pub record Held (es : List ℕ) (ls : List Line) (t : Script Event) (k : List Event) : Type 0 where
+  pub record HasLines (es : List ℕ) (ls : List Line) (t : Script Event) (k : List Event) : Type 0 where
     pub room : Room F o L 0 (joined ls)
     pub ends-in : ends ls ≤ length es
     pub after : t ≡ told k
 
-  pub of-stretches : (type : ℕ) (tagged : Bool) (i : ℕ) (es : List ℕ) (t : Script Event) (ls : List Line) (j : ℕ) (k : List Event) → stretchesS type tagged i C es ⨟ t ≡ told (group type tagged (lineOf F) ls j k) → Held es ls t k
+  pub of-stretches : (type : ℕ) (tagged : Bool) (i : ℕ) (es : List ℕ) (t : Script Event) (ls : List Line) (j : ℕ) (k : List Event) → stretchesS type tagged i C es ⨟ t ≡ told (group type tagged (lineOf F) ls j k) → HasLines es ls t k
   unfolding stretchesS ringsS flatS
   of-stretches type tagged i es t ls j k h = go (single es) ls (rw framed-then at h)
     where
-      go : (one : Bool) (ls : List Line) → say (beginE type tagged (cond one 1 (length es)) i) (cond one (flatS C 2 false 0) (linesS C es 0 0) ⨟ say (endE type tagged i) t) ≡ told (group type tagged (lineOf F) ls j k) → Held es ls t k
+      go : (one : Bool) (ls : List Line) → say (beginE type tagged (cond one 1 (length es)) i) (cond one (flatS C 2 false 0) (linesS C es 0 0) ⨟ say (endE type tagged i) t) ≡ told (group type tagged (lineOf F) ls j k) → HasLines es ls t k
       go true [] h = let z : _≡_ {A = ℕ} 1 0 = unfold beginE in sizes h in absurd (omega arith)
       go true (l ∷ []) h =
           let s = of-flat F o L 2 false 0 _ _ l 0 _ (omega arith) (rest h) in
@@ -91,7 +91,7 @@ module _ (F : Flags) (o : Option (List ℕ)) (L : Lanes) where
       go none h = absurd (u (unfold _⨟_ in h))
       go (some l) h = h
 
-  pub of-multi : (es : List ℕ) (ls : List Line) → multiLineS C es 0 ≡ told (group 5 false (lineOf F) ls 0 []) → Held es ls (stop 0) []
+  pub of-multi : (es : List ℕ) (ls : List Line) → multiLineS C es 0 ≡ told (group 5 false (lineOf F) ls 0 []) → HasLines es ls (stop 0) []
   unfolding multiLineS
   of-multi es ls h = of-stretches 5 false 0 es (stop 0) ls 0 [] (go (single es) (then-done _ ∙ h))
     where

@@ -30,12 +30,12 @@ pair-kind F c n = go (multi F)
 
 -- e and e′ are the ends after the pairs
 module _ (F : Flags) (e e′ : Event) (t : Script Event) (k : List Event) (low : e .kind < 64) (low′ : e′ .kind < 64) where
-  record Has (l : List ℕ) (L : Lanes) (cs : List Coord) : Type 0 where
+  record HasPairs (l : List ℕ) (L : Lanes) (cs : List Coord) : Type 0 where
     pub xy : length l ≡ 2 * length cs
     pub values : (v : Value) → tally F v cs ≤ count (laneIn L v)
     pub after : t ≡ told k
 
-  of-pairs : (l : List ℕ) (cs : List Coord) (L : Lanes) (n last : ℕ) → coordsS (multi F) L l n last ⨟ say e t ≡ told (each (coordOf F) cs n (e′ ∷ k)) → Has l L cs
+  of-pairs : (l : List ℕ) (cs : List Coord) (L : Lanes) (n last : ℕ) → coordsS (multi F) L l n last ⨟ say e t ≡ told (each (coordOf F) cs n (e′ ∷ k)) → HasPairs l L cs
   unfolding coordsS
   of-pairs [] [] L n zero h = record { xy = refl; values = λ v. omega arith; after = unfold _⨟_ in rest h }
   of-pairs [] [] L n (suc c) h = unfold _⨟_ in mute h

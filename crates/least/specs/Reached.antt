@@ -52,6 +52,7 @@ module _ (get : ℕ → Option Rec) where
       of none e h = absurd (never h)
       of (some r) e h = in-span r (r .parts) e refl h
 
+  -- whatever parts lead to is in the table,
   pub reached-within : (N n : ℕ) → Sound (suc N) get → Reached get n → n < suc N
   reached-within N n sound root = omega arith
   reached-within N n sound (part {m = m} r h) = part-above (suc N) m n sound h .1
@@ -61,6 +62,7 @@ module _ (get : ℕ → Option Rec) where
   root-reached zero = refl
   root-reached (suc steps) = refl
 
+  -- is told as reached,
   pub reached-in : (N n steps : ℕ) → Sound N get → n ≤ steps → Reached get n → reached get steps n ≡ true
   unfolding reached
   reached-in N n steps sound h root = root-reached steps
@@ -69,6 +71,7 @@ module _ (get : ℕ → Option Rec) where
       let b = part-above N m n sound p in
       or-right (eqb n 0) _ (any-at _ n m (b .0) (rw (p, reached-in N m steps sound (omega (arith, b .0)) r)))
 
+  -- and nothing else is
   pub reached-only : (steps n : ℕ) → reached get steps n ≡ true → Reached get n
   unfolding reached
   reached-only zero n h = rw (eqb-true n 0 h) root

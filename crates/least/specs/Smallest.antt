@@ -42,5 +42,6 @@ module _ (F : Flags) (s : Simple) where
   unfolding treeSize
   table-at-most k h T P q o = written-least F h 4096 (recordWith T P) s k q o
 
+  -- the one is no larger than the other, in whatever table and pools each stands
   pub smallest : (k : Held) (h : Typing) (T T′ : List ℕ) (P P′ : Pools) → Writable F s k → Holds (recordWith T P) 0 (tree (ending h k)) → readS F (recordWith T′ P′) (typeOf s) ≡ told (eventsOf F 0 s) → treeSize T P ≤ treeSize T′ P′
   smallest k h T T′ P P′ q o e = omega (arith, table-at-most k h T P q o, table-at-least T′ P′ e)
