@@ -1,0 +1,151 @@
+/* How deep the stack of each call goes: each is made on a stack of its own, painted before it; the lowest byte that changed
+ * tells. Arguments that go by the stack are counted. Reading is tried with every type at the bottom of 16 levels, with 0, 1
+ * and 2 ends. */
+#define _XOPEN_SOURCE 700
+#include "bintolage.h"
+
+#include <stdio.h>
+#include <string.h>
+#include <ucontext.h>
+
+#define STACK_BYTES 65536
+#define PAINT 0xa5
+
+static uint8_t stack[STACK_BYTES] __attribute__((aligned(16)));
+static uint8_t *top;
+static ucontext_t outside, inside;
+
+static uint32_t state[BINTOLAGE_STATE_WORDS];
+static uint8_t table[BINTOLAGE_LEVELS * BINTOLAGE_GEOMETRY_BYTES];
+static uint64_t xy[64], z[32], m[32], t[32], tm[32];
+static uint32_t ends[32];
+static uint8_t event[BINTOLAGE_EVENT_BYTES];
+static uint8_t buffer[256], records[128 * 64];
+static const uint8_t text[] = {'S', 0xc3, 0xb8, 'r', 'e', 'n'};
+static const uint8_t columns[] = {BINTOLAGE_COLUMN_STRING};
+static uint32_t count;
+static uint8_t stopped;
+static uint64_t edges[4];
+
+#define POOLS xy, 64, ends, 32, z, 32, m, 32, t, 32, tm, 32
+
+static void start(void) { bintolage_start(BINTOLAGE_POLYGON, 1, 1, state); }
+static void take(void) { bintolage_event(state, event, sizeof event, table, sizeof table, POOLS); }
+static void property(void) { bintolage_property(state, 0, BINTOLAGE_COLUMN_STRING, 0, text, sizeof text, buffer, sizeof buffer); }
+static void finish(void) { bintolage_finish(state, table, sizeof table, POOLS); }
+static void next(void) { bintolage_next(state, table, sizeof table, POOLS); }
+static void read_tree(void) { bintolage_read(table, sizeof table, POOLS, 0, 15, records, sizeof records, &count); }
+static void read_properties(void)
+{
+    bintolage_read_properties(buffer, state[2], 1, columns, sizeof columns, 65536, records, sizeof records, &count, &stopped);
+}
+static void box(void) { bintolage_box(table, sizeof table, POOLS, 0, edges); }
+
+static void (*call)(void);
+static volatile int returned;
+
+/* What stands after the call keeps it from being the last jump, which would leave out its return address. */
+static void on_painted_stack(void)
+{
+    top = __builtin_frame_address(0);
+    call();
+    returned = 1;
+}
+
+/* The bytes below the frame of the one who calls that the call came to. */
+static long depth(void (*made)(void))
+{
+    call = made;
+    memset(stack, PAINT, sizeof stack);
+    getcontext(&inside);
+    inside.uc_stack.ss_sp = stack;
+    inside.uc_stack.ss_size = sizeof stack;
+    inside.uc_link = &outside;
+    makecontext(&inside, on_painted_stack, 0);
+    swapcontext(&outside, &inside);
+    const uint8_t *low = stack;
+    while (*low == PAINT) {
+        low++;
+    }
+    return (long)(top - low);
+}
+
+static void put32(uint8_t *at, uint32_t number)
+{
+    for (int i = 0; i < 4; i++) {
+        at[i] = (uint8_t)(number >> (8 * i));
+    }
+}
+
+static void put_list(uint8_t *record, int lane, uint32_t first, uint32_t length)
+{
+    record[1] |= (uint8_t)(1 << lane);
+    put32(record + 4 + 8 * lane, first);
+    put32(record + 8 + 8 * lane, length);
+}
+
+/* Records 0 to 14 are collections of one part; record 15, at level 16, has every list but parts, and so many ends. */
+static void nest(uint8_t type, uint32_t lines)
+{
+    memset(table, 0, sizeof table);
+    for (uint32_t i = 0; i < BINTOLAGE_LEVELS - 1; i++) {
+        table[64 * i] = BINTOLAGE_GEOMETRY_COLLECTION;
+        put_list(table + 64 * i, 6, i + 1, 1);
+    }
+    uint8_t *last = table + 64 * (BINTOLAGE_LEVELS - 1);
+    last[0] = type;
+    put_list(last, 0, 0, 16);
+    put_list(last, 1, 0, lines);
+    for (int lane = 2; lane < 6; lane++) {
+        put_list(last, lane, 0, 8);
+    }
+    ends[0] = 4;
+    ends[1] = 8;
+}
+
+static long deepest_read(int *deepest)
+{
+    long most = 0;
+    for (int i = 0; i < 3 * 256; i++) {
+        nest((uint8_t)(i / 3), i % 3);
+        long d = depth(read_tree);
+        if (d > most) {
+            most = d;
+            *deepest = i / 3;
+        }
+    }
+    return most;
+}
+
+/* Every kind of event, taken in a collection, so that an end finishes a part. */
+static long deepest_event(void)
+{
+    long most = 0;
+    for (int kind = 0; kind < 256; kind++) {
+        bintolage_start(BINTOLAGE_GEOMETRY_COLLECTION, 0, 0, state);
+        memset(event, 0, sizeof event);
+        event[0] = BINTOLAGE_GEOMETRY_COLLECTION;
+        take();
+        event[0] = (uint8_t)kind;
+        long d = depth(take);
+        most = d > most ? d : most;
+    }
+    return most;
+}
+
+int main(void)
+{
+    int type = 0;
+    printf("%-26s bytes\n", "call");
+    printf("%-26s %5ld\n", "start", depth(start));
+    printf("%-26s %5ld\n", "event, of any kind", deepest_event());
+    start();
+    printf("%-26s %5ld\n", "property", depth(property));
+    printf("%-26s %5ld\n", "read_properties", depth(read_properties));
+    printf("%-26s %5ld\n", "finish", depth(finish));
+    printf("%-26s %5ld\n", "box", depth(box));
+    printf("%-26s %5ld\n", "next", depth(next));
+    printf("%-26s %5ld", "read, of 16 levels", deepest_read(&type));
+    printf("  (type %d at the bottom)\n", type);
+    return 0;
+}

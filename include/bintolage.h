@@ -1,0 +1,320 @@
+/*
+ * Bintolage: the feature store of a drainage plough's terminal.
+ *
+ * Events go in, a tree of geometry records comes out, and the tree reads back as events. Property values go in as typed
+ * numbers or texts, and property bytes read back as values. Every function behind these calls is proved to do what its
+ * contract says on every input.
+ *
+ *     cc program.c libterminal.a
+ *
+ * The library has no heap, no variables of its own, and calls nothing. It works in memory that the caller lends for the
+ * time of one call. It never blocks, and every call ends. Calls on different memory may run at the same time.
+ *
+ *
+ * HOW MEMORY IS LENT
+ *
+ * A list is lent as two arguments: a pointer to its first element, and how many ELEMENTS (not bytes) there are. Every call
+ * accepts every count and any contents. The caller sees to this:
+ *
+ *   - a pointer is not null, even where the count is 0, and is aligned for its element (8 for uint64_t, 4 for uint32_t);
+ *   - as many elements as the count says can be read, and written where the pointer is not const;
+ *   - what one call may write overlaps nothing else that the same call is lent.
+ *
+ * A part of what is lent is never touched: what lies beyond the usable room (BINTOLAGE_..., below), the remainder of a
+ * table or a log that is no whole record, and whatever a call has no reason to change.
+ *
+ *
+ * A FEATURE, FROM BEGINNING TO END
+ *
+ *     bintolage_start      once
+ *     bintolage_event      for each event                           \  in any order,
+ *     bintolage_property   for each property                        /  for each feature
+ *     bintolage_finish     the tree now stands in table and pools
+ *     bintolage_read, bintolage_box, bintolage_read_properties: read it, copy it, store it
+ *     bintolage_next       and the next feature may begin
+ *
+ * Between calls the caller keeps what the state uses as the last call left it: as many property bytes as word 2 of the
+ * state says; of each pool the words up to start + count of its pending list (words 4 to 15); of the table the parts, at
+ * records 1 to word 1, and record 0 while a finished feature waits. All else in the lent memory is free to change. Memory
+ * may be lent at another address, or longer, at each call; lent shorter than what is used, a call answers 12.
+ */
+#ifndef BINTOLAGE_H
+#define BINTOLAGE_H
+
+#include <stddef.h>
+#include <stdint.h>
+
+#ifdef __cplusplus
+extern "C" {
+#endif
+
+/*
+ * ANSWERS
+ *
+ * Every call but bintolage_start answers 0 for done, or why it was refused. A refused write changes nothing: neither a
+ * word of the state nor a lent byte. A refused read leaves in the log exactly the records before the refused place.
+ */
+#define BINTOLAGE_DONE             0
+#define BINTOLAGE_XY_ABSENT        1  /* read: a list of coordinates is absent where one is needed */
+#define BINTOLAGE_PARTS_ABSENT     2  /* read: a list of parts is absent where one is needed */
+#define BINTOLAGE_COLUMN_UNKNOWN   2  /* read_properties: the property's column is not below the column count */
+#define BINTOLAGE_TYPE_UNKNOWN     3  /* read: no such geometry type, or one that has no events (0, 13, 14) */
+#define BINTOLAGE_TYPE_NOT_A_CURVE 4  /* read: a type that does not belong in a curve or a surface */
+#define BINTOLAGE_TYPES_MIXED      5  /* event: this type does not go into a feature of the declared type */
+#define BINTOLAGE_NOT_UTF8         6  /* property, read_properties: a String, Json or DateTime is not UTF-8 (RFC 3629) */
+#define BINTOLAGE_PAST_LIST        7  /* read: a coordinate, or a z, m, t or tm value, lies past its list */
+#define BINTOLAGE_BAD_END          8  /* read: an end of 2^31 or more, or below the one before */
+#define BINTOLAGE_LOG_FULL         9  /* read, read_properties: the log has no room for the next record */
+#define BINTOLAGE_BAD_RECORD      10  /* read, box: a bad geometry record or table ("Geometry record", below) */
+#define BINTOLAGE_MALFORMED       11  /* event: no well-formed event record; property: no such type, a Bool above 1, or
+                                         bits beyond the type's width */
+#define BINTOLAGE_NO_ROOM         12  /* event, property, finish, next: no room in a pool, the table or the property
+                                         buffer, or one is lent shorter than the state already uses */
+#define BINTOLAGE_TOO_DEEP        13  /* read: a part at level 17, the root being level 1 */
+#define BINTOLAGE_VALUE_CUT       14  /* read_properties: the bytes end within a value */
+#define BINTOLAGE_NOT_ITS_TURN    15  /* event, property, finish: a finished feature waits for next; next: none waits */
+#define BINTOLAGE_COLUMN_TOO_LARGE 16 /* property: a column above 65,535 */
+
+/* Where several refusals are due, the first of these is given: event 11, 15, 5, 12; property 15, 16, 11, 6, 12;
+ * finish and next 15, 12; read, on entering a geometry, 13, 10; read_properties, at each property, 2, 14, 6, 9. */
+
+/*
+ * USABLE ROOM
+ *
+ * What is lent beyond it is neither read nor changed.
+ */
+#define BINTOLAGE_RECORDS          4096  /* geometry records in a table */
+#define BINTOLAGE_XY_WORDS       131072  /* words in the xy pool: 65,536 pairs */
+#define BINTOLAGE_POOL_WORDS      65536  /* words in each other pool */
+#define BINTOLAGE_LOG_RECORDS   1048576  /* records in a log */
+#define BINTOLAGE_PROPERTY_BYTES  65536  /* bytes in a property buffer */
+#define BINTOLAGE_LEVELS             16  /* levels of geometries within geometries, the root being the first */
+
+#define BINTOLAGE_STATE_WORDS        16
+#define BINTOLAGE_EVENT_BYTES        64
+#define BINTOLAGE_GEOMETRY_BYTES     64
+#define BINTOLAGE_VALUE_BYTES        16
+
+/*
+ * GEOMETRY TYPES
+ */
+#define BINTOLAGE_UNKNOWN              0
+#define BINTOLAGE_POINT                1
+#define BINTOLAGE_LINE_STRING          2
+#define BINTOLAGE_POLYGON              3
+#define BINTOLAGE_MULTI_POINT          4
+#define BINTOLAGE_MULTI_LINE_STRING    5
+#define BINTOLAGE_MULTI_POLYGON        6
+#define BINTOLAGE_GEOMETRY_COLLECTION  7
+#define BINTOLAGE_CIRCULAR_STRING      8
+#define BINTOLAGE_COMPOUND_CURVE       9
+#define BINTOLAGE_CURVE_POLYGON       10
+#define BINTOLAGE_MULTI_CURVE         11
+#define BINTOLAGE_MULTI_SURFACE       12
+#define BINTOLAGE_CURVE               13
+#define BINTOLAGE_SURFACE             14
+#define BINTOLAGE_POLYHEDRAL_SURFACE  15
+#define BINTOLAGE_TIN                 16
+#define BINTOLAGE_TRIANGLE            17
+
+/*
+ * EVENT KINDS
+ *
+ * A begin has the geometry type's number, an end has it plus BINTOLAGE_END. Types 0, 13 and 14 have no events.
+ */
+#define BINTOLAGE_END         32
+#define BINTOLAGE_XY          64  /* a pair x, y */
+#define BINTOLAGE_COORDINATE  65  /* a pair with those of z, m, t, tm that its present bits name */
+
+/* An event's present bits, and the flags of bintolage_read. */
+#define BINTOLAGE_Z   1
+#define BINTOLAGE_M   2
+#define BINTOLAGE_T   4
+#define BINTOLAGE_TM  8
+
+/*
+ * COLUMN TYPES
+ */
+#define BINTOLAGE_COLUMN_BYTE       0
+#define BINTOLAGE_COLUMN_UBYTE      1
+#define BINTOLAGE_COLUMN_BOOL       2
+#define BINTOLAGE_COLUMN_SHORT      3
+#define BINTOLAGE_COLUMN_USHORT     4
+#define BINTOLAGE_COLUMN_INT        5
+#define BINTOLAGE_COLUMN_UINT       6
+#define BINTOLAGE_COLUMN_LONG       7
+#define BINTOLAGE_COLUMN_ULONG      8
+#define BINTOLAGE_COLUMN_FLOAT      9
+#define BINTOLAGE_COLUMN_DOUBLE    10
+#define BINTOLAGE_COLUMN_STRING    11
+#define BINTOLAGE_COLUMN_JSON      12
+#define BINTOLAGE_COLUMN_DATE_TIME 13
+#define BINTOLAGE_COLUMN_BINARY    14
+
+/*
+ * RECORDS
+ *
+ * All numbers are little-endian, spare bytes are zero. Doubles travel as their bit patterns; a NaN keeps its payload.
+ *
+ * Event record, 64 bytes
+ *     0      kind
+ *     1      tagged, 0 or 1: LineString, Polygon and Triangle, begin and end; it says that the geometry stands by itself
+ *            or in a collection, and not inside another type
+ *     2      present bits: kind 65
+ *     3      spare
+ *     4..7   size, how many lines, rings, pairs or parts follow: every begin but Point's
+ *     8..11  idx, its number within what holds it: every kind
+ *    12..15  spare
+ *    16 x   24 y                     kinds 64 and 65
+ *    32 z   40 m   48 t   56 tm      kind 65, where its present bit is set
+ * A field that the kind does not use, and a value whose present bit is not set, is zero. A record that breaks any of this,
+ * or is not 64 bytes long, is malformed (11).
+ *
+ * Geometry record, 64 bytes
+ *     0      type
+ *     1      present bits: xy 1, ends 2, z 4, m 8, t 16, tm 32, parts 64
+ *     2..3   spare
+ *     4..59  seven pairs of uint32, start and count, in that order: the first six count words of the pool of that name,
+ *            parts counts records of the table. An absent list has start and count 0.
+ *    60..63  spare
+ * Record 0 is the root. Parts stand one after the other, at numbers above the record's own. The ends of a list of lines or
+ * rings count pairs, from the start of the record's own xy list, to the end of each line or ring.
+ * A table is bad (10) if its length is no whole number of records or it has none. A record is bad (10) if its number is
+ * past the table or 4,095, a spare byte or present bit 128 is set, an absent list has a start or count, a list passes the
+ * lent or usable end of its pool, or parts start at or below the record or pass the table's end.
+ *
+ * Value record, 16 bytes
+ *     0..1   column
+ *     2      column type
+ *     3      spare
+ *     4..7   how many bytes the value has
+ *     8..15  the value's bytes, padded with zeros; for types 11 to 14 the place (uint64) where its bytes start within the
+ *            property bytes. A Bool is 0 or 1.
+ */
+
+/*
+ * THE WRITER'S STATE
+ *
+ * Sixteen words that the caller keeps and lends to every writing call. They may be copied, stored and sent.
+ *     0       declared type + 256 * current type + 65536 * mode + 2^24 * (detect 1, promote 2, waiting 4)
+ *     1       how many parts the feature has
+ *     2       how many property bytes it has
+ *     3       spare, written as 0
+ *     4..15   start and count of the pending list in each pool: xy, ends, z, m, t, tm
+ * Any sixteen words are accepted as a state; spare bits are not looked at. On a refusal they stay as they were, bit for
+ * bit. The property bytes of a feature, of which the caller wants the length, are the first state[2] of the buffer.
+ */
+
+/*
+ * The state of a fresh writer. `declared` is the type of the features to come, 0 where it is not known. With `detect` the
+ * first type that is seen becomes the declared type; with `promote` a LineString may go into a MultiLineString and a
+ * Polygon into a MultiPolygon. For both, 0 is no and all else is yes.
+ */
+void bintolage_start(uint8_t declared, uint8_t detect, uint8_t promote, uint32_t state[16]);
+
+/*
+ * Takes one event record. Refused: 11, 15, 5, 12.
+ */
+uint8_t bintolage_event(
+    uint32_t state[16],
+    const uint8_t *event, size_t event_bytes,
+    uint8_t *table, size_t table_bytes,
+    uint64_t *xy, size_t xy_words,
+    uint32_t *ends, size_t ends_words,
+    uint64_t *z, size_t z_words,
+    uint64_t *m, size_t m_words,
+    uint64_t *t, size_t t_words,
+    uint64_t *tm, size_t tm_words);
+
+/*
+ * Lays one property down in `buffer`, after those before it: the column's index in two bytes, then the value. A number is
+ * given in `bits`, in the low bytes, higher bytes zero (a negative Byte -1 is 0xff), and its text is not looked at; a
+ * String, Json, DateTime or Binary is given in `text`, and its bits are not looked at. Refused: 15, 16, 11, 6, 12.
+ */
+uint8_t bintolage_property(
+    uint32_t state[16],
+    uint32_t column, uint8_t type, uint64_t bits,
+    const uint8_t *text, size_t text_bytes,
+    uint8_t *buffer, size_t buffer_bytes);
+
+/*
+ * Ends the feature: its root goes down as record 0, and the feature waits. The tree has as many records as the state has
+ * parts, and the root. Refused: 15, 12.
+ */
+uint8_t bintolage_finish(
+    uint32_t state[16],
+    uint8_t *table, size_t table_bytes,
+    const uint64_t *xy, size_t xy_words,
+    const uint32_t *ends, size_t ends_words,
+    const uint64_t *z, size_t z_words,
+    const uint64_t *m, size_t m_words,
+    const uint64_t *t, size_t t_words,
+    const uint64_t *tm, size_t tm_words);
+
+/*
+ * Leaves the finished feature behind. What is still pending moves to the front of its pool and belongs to the next
+ * feature; declared type, current type and mode stay. Refused: 15, 12.
+ */
+uint8_t bintolage_next(
+    uint32_t state[16],
+    const uint8_t *table, size_t table_bytes,
+    uint64_t *xy, size_t xy_words,
+    uint32_t *ends, size_t ends_words,
+    uint64_t *z, size_t z_words,
+    uint64_t *m, size_t m_words,
+    uint64_t *t, size_t t_words,
+    uint64_t *tm, size_t tm_words);
+
+/*
+ * Reads the tree whose root is record 0, as event records from the start of `log`, and says in `count` how many, refused
+ * or not. `declared` is the type to read the root under, 0 for its own. `flags` says which of z, m, t and tm are wanted, by
+ * the present bits of an event; higher bits are not looked at. With no flag every pair is kind 64, with any it is kind 65.
+ * The table must have a whole number of records. Refused: 1, 2, 3, 4, 7, 8, 9, 10, 13.
+ */
+uint8_t bintolage_read(
+    const uint8_t *table, size_t table_bytes,
+    const uint64_t *xy, size_t xy_words,
+    const uint32_t *ends, size_t ends_words,
+    const uint64_t *z, size_t z_words,
+    const uint64_t *m, size_t m_words,
+    const uint64_t *t, size_t t_words,
+    const uint64_t *tm, size_t tm_words,
+    uint8_t declared, uint8_t flags,
+    uint8_t *log, size_t log_bytes,
+    uint32_t *count);
+
+/*
+ * Reads property bytes, as value records from the start of `log`, and says in `count` how many, refused or not. `columns`
+ * has the type of each column; with `has_columns` 0 it is not looked at and nothing is read. A column of a type above 14
+ * gives no value and takes no bytes. The reading ends after the first value of column `stop`, and says so by 1 in
+ * `stopped`, else 0; 65,536 or more for none. A single byte at the end is no property. Refused: 2, 14, 6, 9.
+ */
+uint8_t bintolage_read_properties(
+    const uint8_t *bytes, size_t bytes_count,
+    uint8_t has_columns,
+    const uint8_t *columns, size_t columns_count,
+    uint32_t stop,
+    uint8_t *log, size_t log_bytes,
+    uint32_t *count, uint8_t *stopped);
+
+/*
+ * The box around the xy list that record `n` itself has, as the bit patterns of four doubles: least x, least y, greatest x,
+ * greatest y. It begins at plus infinity twice, minus infinity twice, and a value replaces an edge only where it is strictly
+ * beyond it, so a NaN never does. The edges are written refused or not; refused, they are those beginnings. Refused: 10.
+ */
+uint8_t bintolage_box(
+    const uint8_t *table, size_t table_bytes,
+    const uint64_t *xy, size_t xy_words,
+    const uint32_t *ends, size_t ends_words,
+    const uint64_t *z, size_t z_words,
+    const uint64_t *m, size_t m_words,
+    const uint64_t *t, size_t t_words,
+    const uint64_t *tm, size_t tm_words,
+    uint32_t n,
+    uint64_t edges[4]);
+
+#ifdef __cplusplus
+}
+#endif
+
+#endif

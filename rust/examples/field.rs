@@ -1,0 +1,79 @@
+//! A field edge with two keep-out rings, and what the crew has to know: written, read back and printed.
+use bintolage::{column_type, event, geometry_type, usable, Event, Memory, Refusal, Tree, Value, ValueRecord, Writer};
+
+const COLUMNS: [u8; 3] = [column_type::DOUBLE, column_type::USHORT, column_type::STRING];
+const NAMES: [&str; 3] = ["depth", "slope", "crew"];
+
+const EDGE: [(f64, f64); 5] = [(0.0, 0.0), (400.0, 0.0), (400.0, 250.0), (0.0, 250.0), (0.0, 0.0)];
+const MAIN_PIPE: [(f64, f64); 5] = [(50.0, 40.0), (50.0, 60.0), (350.0, 60.0), (350.0, 40.0), (50.0, 40.0)];
+const WELL: [(f64, f64); 4] = [(200.0, 150.0), (210.0, 160.0), (190.0, 160.0), (200.0, 150.0)];
+
+fn write_ring(writer: &mut Writer, idx: u32, pairs: &[(f64, f64)]) -> Result<(), Refusal> {
+    writer.event(&Event::begin(geometry_type::LINE_STRING, false, pairs.len() as u32, idx))?;
+    for (i, &(x, y)) in pairs.iter().enumerate() {
+        writer.event(&Event::xy(x, y, i as u32))?;
+    }
+    writer.event(&Event::end(geometry_type::LINE_STRING, false, idx))
+}
+
+fn write_field(writer: &mut Writer) -> Result<(), Refusal> {
+    writer.event(&Event::begin(geometry_type::POLYGON, true, 3, 0))?;
+    write_ring(writer, 0, &EDGE)?;
+    write_ring(writer, 1, &MAIN_PIPE)?;
+    write_ring(writer, 2, &WELL)?;
+    writer.event(&Event::end(geometry_type::POLYGON, true, 0))
+}
+
+fn print_event(e: Event) {
+    const RING_END: u8 = geometry_type::LINE_STRING + event::END;
+    const POLYGON_END: u8 = geometry_type::POLYGON + event::END;
+    match e.kind {
+        geometry_type::POLYGON => println!("polygon of {} rings", e.size),
+        geometry_type::LINE_STRING => println!("  ring {}, {} pairs", e.idx, e.size),
+        event::XY => println!("    {:.1} {:.1}", f64::from_bits(e.x), f64::from_bits(e.y)),
+        RING_END => println!("  end of ring {}", e.idx),
+        POLYGON_END => println!("end of polygon"),
+        _ => {}
+    }
+}
+
+fn print_field(tree: Tree) -> Result<(), Refusal> {
+    let mut log = [0; 64 * usable::EVENT_BYTES];
+    let read = tree.read(geometry_type::POLYGON, 0, &mut log);
+    read.answer?;
+    Event::in_log(&log, read.count).for_each(print_event);
+    let b = tree.bbox(0);
+    b.answer?;
+    println!("box {:.1} {:.1} to {:.1} {:.1}", b.least_x, b.least_y, b.greatest_x, b.greatest_y);
+    Ok(())
+}
+
+fn print_properties(bytes: &[u8]) -> Result<(), Refusal> {
+    let mut log = [0; 8 * usable::VALUE_BYTES];
+    let read = bintolage::read_properties(bytes, Some(&COLUMNS), None, &mut log);
+    read.answer?;
+    for record in ValueRecord::in_log(&log, read.count) {
+        print!("{}: ", NAMES[record.column as usize]);
+        match record.value(bytes) {
+            Some(Value::Double(v)) => println!("{v:.2}"),
+            Some(Value::String(v)) => println!("{v}"),
+            _ => println!("{}", record.word),
+        }
+    }
+    Ok(())
+}
+
+fn main() -> Result<(), Refusal> {
+    // a small terminal's memory; z, m, t and tm are not used
+    let (mut table, mut xy, mut ends, mut properties) = ([0; 8 * usable::GEOMETRY_BYTES], [0; 128], [0; 64], [0; 256]);
+    let memory =
+        Memory { table: &mut table, xy: &mut xy, ends: &mut ends, z: &mut [], m: &mut [], t: &mut [], tm: &mut [] };
+    let mut writer = Writer::start(geometry_type::POLYGON, false, false, memory, &mut properties);
+    write_field(&mut writer)?;
+    writer.property(0, Value::Double(1.15))?;
+    writer.property(1, Value::UShort(3))?;
+    writer.property(2, Value::String("Jensen, Søren"))?;
+    print_field(writer.finish()?)?;
+    print_properties(writer.properties())?;
+    writer.next_feature()
+}

@@ -1,0 +1,35 @@
+//! Bintolage: the feature store of a drainage plough's terminal.
+//!
+//! Events go in, a tree of geometry records comes out, and the tree reads back as events; property values go in, and
+//! property bytes read back as values. The work is done by a library of which every function is proved; this crate gives it
+//! Rust's types. It has no heap and no `std`: all memory is lent by the caller.
+//!
+//! [`Writer`] holds the lent memory of one feature. [`Tree::read`], [`Tree::bbox`] and [`read_properties`] read. `State`
+//! is what a writer keeps between calls, as sixteen words that may be stored or sent.
+#![no_std]
+
+pub mod column_type;
+pub mod event;
+pub mod geometry_type;
+#[rustfmt::skip] // a pointer and its count on one line
+mod link;
+mod memory;
+#[rustfmt::skip] // a pointer and its count on one line
+mod properties;
+mod refusal;
+#[rustfmt::skip] // a pointer and its count on one line
+mod state;
+#[rustfmt::skip] // a pointer and its count on one line
+mod tree;
+pub mod usable;
+mod value;
+mod writer;
+
+pub use event::Event;
+pub use memory::{Memory, Tree};
+pub use properties::{read_properties, PropertiesRead};
+pub use refusal::Refusal;
+pub use state::State;
+pub use tree::{Boxed, Read};
+pub use value::{Value, ValueRecord};
+pub use writer::Writer;

@@ -1,0 +1,114 @@
+use core::fmt;
+
+/// Why a call was refused. A refused write changes nothing; a refused read leaves in the log the records before the place.
+#[derive(Clone, Copy, Debug, PartialEq, Eq)]
+pub enum Refusal {
+    /// 1: a list of coordinates is absent where one is needed.
+    XyAbsent,
+    /// 2, of a tree: a list of parts is absent where one is needed.
+    PartsAbsent,
+    /// 2, of property bytes: the column is not below the column count.
+    ColumnUnknown,
+    /// 3: no such geometry type, or one that has no events.
+    TypeUnknown,
+    /// 4: a type that does not belong in a curve or a surface.
+    TypeNotACurve,
+    /// 5: the type does not go into a feature of the declared type.
+    TypesMixed,
+    /// 6: a text is not UTF-8.
+    NotUtf8,
+    /// 7: a coordinate, or a z, m, t or tm value, lies past its list.
+    PastList,
+    /// 8: an end of 2^31 or more, or below the one before.
+    BadEnd,
+    /// 9: the log has no room for the next record.
+    LogFull,
+    /// 10: a bad geometry record or table.
+    BadRecord,
+    /// 11: a malformed event record; a value of no type, a Bool above 1, or bits beyond the type's width.
+    Malformed,
+    /// 12: no room in a pool, the table or the property buffer, or one is lent shorter than the state uses.
+    NoRoom,
+    /// 13: a part at level 17.
+    TooDeep,
+    /// 14: property bytes end within a value.
+    ValueCut,
+    /// 15: a finished feature waits for `next`, or `next` has none to leave.
+    NotItsTurn,
+    /// 16: a column above 65,535.
+    ColumnTooLarge,
+}
+
+/// Each refusal's number and words.
+const WORDS: [(Refusal, u8, &str); 17] = [
+    (Refusal::XyAbsent, 1, "a list of coordinates is absent"),
+    (Refusal::PartsAbsent, 2, "a list of parts is absent"),
+    (Refusal::ColumnUnknown, 2, "the column is not below the column count"),
+    (Refusal::TypeUnknown, 3, "unknown geometry type"),
+    (Refusal::TypeNotACurve, 4, "a type that does not belong in a curve"),
+    (Refusal::TypesMixed, 5, "types mixed"),
+    (Refusal::NotUtf8, 6, "text that is not UTF-8"),
+    (Refusal::PastList, 7, "a coordinate or value past its list"),
+    (Refusal::BadEnd, 8, "an end of 2^31 or more, or below the one before"),
+    (Refusal::LogFull, 9, "the log is full"),
+    (Refusal::BadRecord, 10, "a bad geometry record or table"),
+    (Refusal::Malformed, 11, "a malformed event or value"),
+    (Refusal::NoRoom, 12, "no room"),
+    (Refusal::TooDeep, 13, "a part at level 17"),
+    (Refusal::ValueCut, 14, "a property value cut short"),
+    (Refusal::NotItsTurn, 15, "not this call's turn"),
+    (Refusal::ColumnTooLarge, 16, "a column above 65,535"),
+];
+
+impl Refusal {
+    pub fn number(self) -> u8 {
+        self.row().1
+    }
+
+    pub fn words(self) -> &'static str {
+        self.row().2
+    }
+
+    fn row(self) -> &'static (Refusal, u8, &'static str) {
+        &WORDS[self as usize]
+    }
+
+    /// The answer of a call on property bytes, where 2 is about a column.
+    pub(crate) fn of_properties(number: u8) -> Result<(), Refusal> {
+        match number {
+            2 => Err(Refusal::ColumnUnknown),
+            _ => Refusal::of(number),
+        }
+    }
+
+    pub(crate) fn of(number: u8) -> Result<(), Refusal> {
+        match number {
+            0 => Ok(()),
+            1 => Err(Refusal::XyAbsent),
+            2 => Err(Refusal::PartsAbsent),
+            3 => Err(Refusal::TypeUnknown),
+            4 => Err(Refusal::TypeNotACurve),
+            5 => Err(Refusal::TypesMixed),
+            6 => Err(Refusal::NotUtf8),
+            7 => Err(Refusal::PastList),
+            8 => Err(Refusal::BadEnd),
+            9 => Err(Refusal::LogFull),
+            10 => Err(Refusal::BadRecord),
+            11 => Err(Refusal::Malformed),
+            12 => Err(Refusal::NoRoom),
+            13 => Err(Refusal::TooDeep),
+            14 => Err(Refusal::ValueCut),
+            15 => Err(Refusal::NotItsTurn),
+            16 => Err(Refusal::ColumnTooLarge),
+            _ => unreachable!("the library answers no other number"),
+        }
+    }
+}
+
+impl fmt::Display for Refusal {
+    fn fmt(&self, f: &mut fmt::Formatter) -> fmt::Result {
+        write!(f, "{}: {}", self.number(), self.words())
+    }
+}
+
+impl core::error::Error for Refusal {}

@@ -1,0 +1,62 @@
+use crate::{Event, Memory, Refusal, State, Tree, Value};
+
+/// A writer of features over memory that is lent to it. Its memory is its own while it lives, so what the state uses is kept.
+pub struct Writer<'a> {
+    state: State,
+    memory: Memory<'a>,
+    properties: &'a mut [u8],
+}
+
+impl<'a> Writer<'a> {
+    /// A fresh writer. With `detect` the first type that is seen becomes the declared type; with `promote` a line goes into
+    /// a MultiLineString, and a polygon into a MultiPolygon.
+    pub fn start(
+        declared: u8,
+        detect: bool,
+        promote: bool,
+        memory: Memory<'a>,
+        properties: &'a mut [u8],
+    ) -> Writer<'a> {
+        Writer { state: State::start(declared, detect, promote), memory, properties }
+    }
+
+    /// A writer that goes on from a state that was kept, over memory that holds what that state uses.
+    pub fn resume(state: State, memory: Memory<'a>, properties: &'a mut [u8]) -> Writer<'a> {
+        Writer { state, memory, properties }
+    }
+
+    pub fn event(&mut self, event: &Event) -> Result<(), Refusal> {
+        self.state.event(&event.to_bytes(), &mut self.memory)
+    }
+
+    pub fn property(&mut self, column: u32, value: Value) -> Result<(), Refusal> {
+        let (kind, bits, text) = value.parts();
+        self.state.property(column, kind, bits, text, self.properties)
+    }
+
+    /// Ends the feature, which then waits for [`Writer::next_feature`].
+    pub fn finish(&mut self) -> Result<Tree<'_>, Refusal> {
+        self.state.finish(&mut self.memory)?;
+        Ok(self.memory.tree())
+    }
+
+    /// Leaves a finished feature behind.
+    pub fn next_feature(&mut self) -> Result<(), Refusal> {
+        self.state.next(&mut self.memory)
+    }
+
+    pub fn state(&self) -> State {
+        self.state
+    }
+
+    /// The table and the pools as they stand; a tree once a feature is finished.
+    pub fn tree(&self) -> Tree<'_> {
+        self.memory.tree()
+    }
+
+    /// The bytes of the feature's properties so far.
+    pub fn properties(&self) -> &[u8] {
+        let used = self.state.property_bytes().min(self.properties.len());
+        &self.properties[..used]
+    }
+}

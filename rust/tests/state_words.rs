@@ -1,0 +1,81 @@
+//! A writer's state is its sixteen words: kept, copied and taken up again at any place.
+mod common;
+use bintolage::{column_type, geometry_type, Event, Refusal, State, Value, Writer};
+use common::{framed, pairs, polygon, Room};
+
+#[test]
+fn the_words_say_what_the_header_says() {
+    assert_eq!(State::start(5, true, false).words()[..4], [5 + (1 << 24), 0, 0, 0]);
+    assert_eq!(State::start(0, false, true).words()[0], 2 << 24);
+    let mut room = Room::of(4, 16);
+    let mut state = State::start(geometry_type::MULTI_POLYGON, false, false);
+    let feature = framed(geometry_type::MULTI_POLYGON, false, 0, &[polygon(false, 0, &[pairs(4), pairs(3)])]);
+    room.feature(&mut state, &feature);
+    state.next(&mut room.memory()).unwrap();
+    room.write(&mut state, &feature[..5]).unwrap();
+    state.property(0, column_type::INT, 7, &[], &mut [0; 6]).unwrap();
+    assert_eq!(state.words(), [6, 0, 6, 0, 0, 4, 0, 0, 0, 0, 0, 0, 0, 0, 0, 0]);
+}
+
+#[test]
+fn a_state_taken_up_after_every_event_writes_the_same() {
+    let feature = polygon(true, 0, &[pairs(5), pairs(4)]);
+    let (mut whole, mut split) = (Room::of(2, 16), Room::of(2, 16));
+    let mut state = State::start(geometry_type::POLYGON, false, false);
+    whole.feature(&mut state, &feature);
+    let mut words = State::start(geometry_type::POLYGON, false, false).words();
+    for event in &feature {
+        let mut properties = [0; 8];
+        let mut writer = Writer::resume(State::from_words(words), split.memory(), &mut properties);
+        writer.event(event).unwrap();
+        words = writer.state().words();
+    }
+    let mut kept = State::from_words(words);
+    kept.finish(&mut split.memory()).unwrap();
+    assert_eq!(kept, state);
+    assert_eq!((split.table, split.xy, split.ends), (whole.table, whole.xy, whole.ends));
+}
+
+#[test]
+fn any_words_are_a_state_and_a_refusal_leaves_each_bit() {
+    let mut room = Room::of(2, 8);
+    let mut word = 1u32;
+    for _ in 0..2_000 {
+        let words: [u32; 16] = core::array::from_fn(|_| {
+            word = word.wrapping_mul(1_664_525).wrapping_add(1_013_904_223);
+            word
+        });
+        let mut state = State::from_words(words);
+        let events = [Event::xy(1.0, 2.0, 0), Event::end(geometry_type::LINE_STRING, true, 0)];
+        let refused = [
+            room.write(&mut state, &events).is_err(),
+            state.finish(&mut room.memory()).is_err(),
+            state.next(&mut room.memory()).is_err(),
+            state.property(0, column_type::BYTE, 1, &[], &mut [0; 8]).is_err(),
+        ];
+        assert_eq!(refused, [true; 4], "so much is never lent here");
+        assert_eq!(state.words(), words);
+    }
+}
+
+#[test]
+fn spare_bits_are_not_looked_at() {
+    let mut room = Room::of(2, 8);
+    let mut words = State::start(geometry_type::POLYGON, false, false).words();
+    words[0] |= 0xf8 << 24;
+    words[3] = 77;
+    let mut state = State::from_words(words);
+    assert_eq!(state.next(&mut room.memory()), Err(Refusal::NotItsTurn));
+    assert_eq!(state.words(), words, "a refusal leaves them");
+    room.write(&mut state, &polygon(true, 0, &[pairs(4)])[..1]).unwrap();
+    assert_eq!(state, State::start(geometry_type::POLYGON, false, false), "a call that is done writes them as 0");
+}
+
+#[test]
+fn a_writer_hands_out_its_property_bytes() {
+    let mut room = Room::of(1, 1);
+    let mut properties = [0; 8];
+    let mut writer = Writer::start(0, false, false, room.memory(), &mut properties);
+    writer.property(258, Value::UByte(9)).unwrap();
+    assert_eq!(writer.properties(), [2, 1, 9]);
+}
