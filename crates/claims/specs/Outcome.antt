@@ -20,9 +20,10 @@ use Rattle.writer.specs.declared.state.Wrote.{Wrote}
 use Rattle.writer.specs.State.{Mem, memOf, outcome, Outcome}
 use Rattle.writer.specs.Calls.{started, eventCall, finishCall, nextCall}
 use Rattle.writer.specs.Property.{propertyCall}
+use Rattle.terminal.specs.Calls.{Kept, kept}
 
 -- ---- a log: its bytes, and the answer's number and count
-said-once : {A : Type 0} (F : Format A) (s : Script A) (L : List ℕ) (number number′ count count′ : ℕ) (M M′ : List ℕ)
+pub said-once : {A : Type 0} (F : Format A) (s : Script A) (L : List ℕ) (number number′ count count′ : ℕ) (M M′ : List ℕ)
     → Said F s L number count M → Said F s L number′ count′ M′ → (number ≡ number′) × (count ≡ count′) × (M ≡ M′)
 said-once F s L number number′ count count′ M M′ h k =
     let c : count ≡ count′ = h .count-is ∙ sym (k .count-is) in
@@ -90,3 +91,9 @@ module _ (number number′ count count′ : ℕ) (log log′ : List ℕ) where
 
 pub box-once : (T : List ℕ) (P : Pools) (n : ℕ) (b b′ : Boxed) → b ≡ boxedOf P (recordAt T (lentOf P) n) → b′ ≡ boxedOf P (recordAt T (lentOf P) n) → b ≡ b′
 box-once T P n b b′ h h′ = h ∙ sym h′
+
+-- ---- the exported calls: event, finish and next keep the state as words; read and read_properties say what the inner calls say (`said-once`), and the others' contracts are equations
+pub kept-once : (number number′ : ℕ) (words words′ : List ℕ) (mem mem′ : Mem) (o : Kept) → kept number words mem ≡ o → kept number′ words′ mem′ ≡ o → (number ≡ number′) × (words ≡ words′) × (mem ≡ mem′)
+kept-once number number′ words words′ mem mem′ o h h′ =
+    let e = h ∙ sym h′ in
+    (ap (λ (k : Kept). k .number) e, ap (λ (k : Kept). k .words) e, ap (λ (k : Kept). k .mem) e)
