@@ -1,4 +1,4 @@
-// Runs the ground floor on the cases of standard input, which vectors/ground.py makes and lays out, and counts what differs.
+// Runs the ground floor on the cases of standard input, which oracle/lists/ground.py makes and lays out, and counts what differs.
 mod boxes;
 mod events;
 mod records;

@@ -1,4 +1,4 @@
-// Runs property bytes, both ways, on the cases of standard input, which vectors/properties.py makes and lays out, and counts what differs.
+// Runs property bytes, both ways, on the cases of standard input, which oracle/lists/property.py makes and lays out, and counts what differs.
 mod reads;
 mod writes;
 

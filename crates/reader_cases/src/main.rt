@@ -1,4 +1,4 @@
-// Runs the geometry reader on the trees of standard input, which vectors/reader.py makes and lays out, and counts what differs.
+// Runs the geometry reader on the trees of standard input, which oracle/lists/reader.py makes and lays out, and counts what differs.
 mod described;
 mod tree;
 

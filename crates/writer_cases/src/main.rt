@@ -1,4 +1,4 @@
-// Runs the writer on the rows of calls of standard input, which vectors/writer.py makes and lays out, and counts what differs.
+// Runs the writer on the rows of calls of standard input, which oracle/lists/writer.py makes and lays out, and counts what differs.
 
 use replay::Frame;
 use replay::Tally;

@@ -1,4 +1,4 @@
-// A case: what is called and lent, and what is expected of it. vectors/writer.py says where each part stands.
+// A case: what is called and lent, and what is expected of it. oracle/lists/writer.py says where each part stands.
 use crate::memory::Lengths;
 use replay::Tally;
 use replay::past;

@@ -1,9 +1,9 @@
 #!/usr/bin/env python3
 """The cases of crates/writer_cases: rows of calls to the geometry writer.
 
-    vectors/writer.py ORACLE > crates/writer_cases/stdin
+    oracle/lists/writer.py ORACLE > crates/writer_cases/stdin
 
-ORACLE is the folder where the oracle, the crate's own Rust, was built. A row is a start and then events, finishes and nexts, each on
+ORACLE is the oracle's program, the crate's own Rust. A row is a start and then events, finishes and nexts, each on
 memory lent as long as the row says at that call. What each call answers and leaves behind is given by `Writer`, this script's own
 reading of the paper's Writing paragraphs. Every row is then written by the oracle too (request W; it is not given what the paper alone
 refuses, with 12 or 15, or with 11 for its length), and this script stops where the two differ: in a number, in the state after a call,
@@ -20,9 +20,8 @@ A start's lent lengths are the row's memory: its canaries, and the checksums of 
 """
 import collections, copy, itertools, random, struct, sys
 
-sys.path.insert(0, sys.argv[1])
 from cases import frame, word
-from oracle import FINISH as FINISH_ITEM, Oracle, begin, end, ev
+from client import FINISH as FINISH_ITEM, Oracle, begin, end, ev
 
 START, EVENT, FINISH, NEXT = range(4)
 DONE, MIXED, MALFORMED, NO_ROOM, NOT_ITS_TURN = 0, 5, 11, 12, 15
@@ -35,7 +34,7 @@ TYPES = sorted(set(range(1, 18)) - {13, 14})
 TAGGED_TYPES = (2, 3, 17)
 KINDS = TYPES + [kind + 32 for kind in TYPES] + [64, 65]
 ALL_BITS = 2**64 - 1
-oracle = Oracle()
+oracle = Oracle(sys.argv[1])
 pick = random.Random(3)
 
 
@@ -239,12 +238,12 @@ class Row:
         self.answers.append((number, [writer.declared, writer.current, MODES[writer.mode], parts, *writer.count]))
 
     def done(self):
-        answer = oracle.write(self.items, **self.typing, raw=False)
-        states = [[state[name] for name in ("declared", "current", "mode", "parts", *POOLS)] for state in answer["states"]]
-        assert self.answers == list(zip(answer["codes"], states)), self.typing
-        assert self.trees == [(tree.table, tree.pools) for tree, *_ in answer["features"]], self.typing
+        answer = oracle.write(self.items, **self.typing)
+        states = [[state[name] for name in ("declared", "current", "mode", "parts", *POOLS)] for state in answer.states]
+        assert self.answers == list(zip(answer.numbers, states)), self.typing
+        assert self.trees == [(feature.tree.table, feature.tree.pools) for feature in answer.features], self.typing
         pending = zip(self.writer.pools, self.writer.start, self.writer.count)
-        assert answer["pending"].pools == [pool[start:start + count] for pool, start, count in pending], self.typing
+        assert answer.pending.pools == [pool[start:start + count] for pool, start, count in pending], self.typing
         counted.update(self.counted)
         return self.cases
 

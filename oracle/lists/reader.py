@@ -1,12 +1,10 @@
 #!/usr/bin/env python3
 """The cases of crates/reader_cases: trees, and the events that reading them puts into a log.
 
-    vectors/reader.py ORACLE > crates/reader_cases/stdin
+    oracle/lists/reader.py ORACLE > crates/reader_cases/stdin
 
-ORACLE is the folder where the oracle, the crate's own Rust, was built. It reads every tree that it can build (request R), and where
-it panics the paper says which number that is (7, 8). `Reading` below is this script's own reading of the paper. The script stops
-where the two differ. What only the paper gives comes from `Reading` alone: 9 for a log without room, 10, 13, and 8 for an end of
-2^31 or more; there the oracle's events must still begin with those expected. The seed is fixed: the same list comes out every time.
+ORACLE is the oracle's program, the crate's own Rust. It reads every tree (request R). `Reading` below is this script's own reading of
+the paper. The script stops where the two differ. 9 for a log without room comes from `Reading` alone. The seed is fixed: the same list comes out every time.
 
 A tree is one case, with several readings of it, to logs of several lengths: all expect the first of the same events. The numbers of a
 case, by their index:
@@ -20,14 +18,12 @@ Whatever was laid out so is compared here with what it stands for, the oracle's 
 """
 import collections, itertools, random, struct, sys
 
-sys.path.insert(0, sys.argv[1])
 from cases import frame
-from oracle import PANIC, Oracle, Store, ev
+from client import Oracle, Store, ev
 
 WHOLE, CUT, BAD, LARGE = range(4)
 DONE, XY_ABSENT, PARTS_ABSENT, TYPE_UNKNOWN, NOT_A_CURVE = range(5)
 PAST_LIST, BAD_END, LOG_FULL, BAD_RECORD, TOO_DEEP = 7, 8, 9, 10, 13
-PANICS = {"idx < self.len()": PAST_LIST, "subtract with overflow": BAD_END}
 LISTS = ("xy", "ends", "z", "m", "t", "tm", "parts")
 VALUES = LISTS[2:6]
 WORD_POOLS = (0, 2, 3, 4, 5)
@@ -40,7 +36,7 @@ CURVES = (COMPOUND, CURVE_POLYGON, MULTI_CURVE, MULTI_SURFACE)
 PARENTS = (MULTI_POLYGON, COLLECTION, *CURVES, SURFACE)
 TOP = 2**32 - 1
 TOO_LARGE = 2**31
-oracle = Oracle()
+oracle = Oracle(sys.argv[1])
 pick = random.Random(3)
 
 
@@ -191,29 +187,11 @@ def read_by_paper(table, pools, declared, flags):
     return DONE, reading.said
 
 
-def read_by_oracle(table, pools, declared, flags):
-    """Nothing, for a tree that cannot be built."""
-    try:
-        number, events, message = oracle.read(Store(table, pools), declared, flags)
-    except ValueError:
-        return None
-    if number == PANIC:
-        number, = [panic for text, panic in PANICS.items() if text in message]
-    return number, events
-
-
 def answer(table, pools, declared, flags):
     number, said = read_by_paper(table, pools, declared, flags)
-    asked = None if len(table) % 64 or not table else read_by_oracle(table, pools, declared, flags)
-    cut_end = number == BAD_END and max(pools[1]) >= TOO_LARGE
-    if asked is None:
-        counts["trees that cannot be built"] += 1
-    elif number in (BAD_RECORD, TOO_DEEP) or cut_end:
-        assert asked[1][:len(said)] == said, (declared, flags, table, pools, number, asked)
-        counts["trees by the paper"] += 1
-    else:
-        assert asked == (number, said), (declared, flags, table, pools, number, asked)
-        counts["trees by the oracle"] += 1
+    asked = oracle.read(Store(table, pools), declared, flags)
+    assert (asked.number, asked.events) == (number, said), (declared, flags, table, pools, number, asked)
+    counts["trees"] += 1
     return number, said
 
 
@@ -601,7 +579,6 @@ def main():
     for tree, declared, flags in trees():
         table, pools = laid(tree)
         write(case(table, pools, declared, flags))
-    assert not counts["trees that cannot be built"]
     for framed in itertools.chain(bad_cases(), large_cases()):
         write(framed)
     for what, count in sorted(counts.items(), key=str):

@@ -1,10 +1,9 @@
 #!/usr/bin/env python3
 """The cases of crates/ground_cases: event records, logs, geometry records, boxes.
 
-    vectors/ground.py ORACLE > crates/ground_cases/stdin
+    oracle/lists/ground.py ORACLE > crates/ground_cases/stdin
 
-ORACLE is the folder where the oracle, the crate's own Rust, was built. Its client's builders lay out the events and the trees (`ev`,
-`store`). Each expected number, list and edge is this script's own reading of the paper's Event, Geometry and Box paragraphs. The
+ORACLE is the oracle's program, the crate's own Rust. Its client's builders lay out the events and the trees (`ev`, `store`). Each expected number, list and edge is this script's own reading of the paper's Event, Geometry and Box paragraphs. The
 oracle is asked too where it has an answer, and this script stops where the two differ: whether an event of 64 bytes is malformed,
 and the box that a writer keeps over the same pairs. It has none for refusals 9 and 10. The seed is fixed: the same list comes out
 every time.
@@ -19,15 +18,14 @@ The numbers of a case, by their index; a word takes two.
 """
 import itertools, random, struct, sys
 
-sys.path.insert(0, sys.argv[1])
 from cases import frame, word
-from oracle import Oracle, begin, ev, store
+from client import Oracle, begin, ev, store
 
 EVENT, SAID, RECORD, BOX = range(4)
 DONE, LOG_FULL, BAD_RECORD, MALFORMED = 0, 9, 10, 11
 TOP = 2**32 - 1
 USABLE = (131072, 65536, 65536, 65536, 65536, 65536)
-oracle = Oracle()
+oracle = Oracle(sys.argv[1])
 pick = random.Random(1)
 
 
@@ -100,7 +98,7 @@ def events():
 def event_case(event):
     number = event_number(event)
     if len(event) == 64:
-        answered = oracle.write([event])["codes"][0]
+        answered = oracle.write([event]).numbers[0]
         assert (answered == MALFORMED) == (number == MALFORMED), event
     return frame(EVENT, number, event)
 
@@ -259,7 +257,7 @@ def box_of(words):
 
 def oracle_box(words):
     pairs = [ev(64, x=x, y=y) for x, y in zip(words[::2], words[1::2])]
-    return oracle.write([begin(4), *pairs], declared=4, states=False)["state"]["bbox"]
+    return oracle.write([begin(4), *pairs], declared=4).state["box"]
 
 
 def box_case(given, words, n=0, records=1, lent=(0,) * 6, words_at=0, rest=0):

@@ -1,12 +1,11 @@
 #!/usr/bin/env python3
 """The cases of crates/property_cases: property lists read, and properties written.
 
-    vectors/properties.py ORACLE > crates/property_cases/stdin
+    oracle/lists/property.py ORACLE > crates/property_cases/stdin
 
-ORACLE is the folder where the oracle, the crate's own Rust, was built. Every list is read by it (request P), and every property
-that is written, or refused for its type, its Bool or its text, is written by it (request W). From this script's own reading of the paper
-come only what the oracle does not have: 14 where the Rust panics, 9 for a full log, the usable 65,536 bytes, and on writing 15, 16,
-bits beyond a width (11) and 12. The seed is fixed: the same list comes out every time.
+ORACLE is the oracle's program, the crate's own Rust. Every list is read by it (request P), and every property that is written, or
+refused for its value or its text, is written by it (request W). From this script's own reading of the paper come only what the oracle
+does not have: 9 for a full log, the usable 65,536 bytes, and on writing 15, 16 and 12. The seed is fixed: the same list comes out every time.
 
 The numbers of a case, by their index; a word takes two.
   read     0: sort 0, 1: number, 2: count, 3: stopped, 4: log length, 5: has columns, 6: how many, 7: stop column, 8: how many bytes;
@@ -16,18 +15,17 @@ The numbers of a case, by their index; a word takes two.
 """
 import itertools, random, struct, sys
 
-sys.path.insert(0, sys.argv[1])
 from cases import frame, word
-from oracle import FINISH, PANIC, Oracle, begin, end, prop, xy
+from client import FINISH, Oracle, begin, end, prop, xy
 
 READ, WRITTEN = range(2)
-DONE, LOG_FULL, MALFORMED, NO_ROOM, VALUE_CUT, WAITING, COLUMN_TOO_LARGE = 0, 9, 11, 12, 14, 15, 16
+DONE, LOG_FULL, NO_ROOM, WAITING, COLUMN_TOO_LARGE = 0, 9, 12, 15, 16
 WIDTHS = (1, 1, 1, 2, 2, 4, 4, 8, 8, 4, 8)
 BOOL, FLOAT, DOUBLE, STRING, BINARY = 2, 9, 10, 11, 14
 TEXTS = range(STRING, BINARY + 1)
 USABLE = 65536
 NO_STOP = 65536
-oracle = Oracle()
+oracle = Oracle(sys.argv[1])
 pick = random.Random(2)
 
 GOOD_TEXTS = ["", "a", "plough", "\0", "\x7f", "\x80", "\u07ff", "\u0800", "\ud7ff", "\ue000", "\uffff", "\U00010000", "\U0010ffff", "äöü €"]
@@ -66,10 +64,8 @@ def some_content(kind):
 
 
 def read_case(data, columns, stop=NO_STOP, log_length=None, has_columns=True):
-    code, stopped, records, message = oracle.props_read(data[:USABLE], columns if has_columns else None, stop)
-    if code == PANIC:
-        assert "properties_reader.rs" in message, message
-        code = VALUE_CUT
+    code, stopped, records, words = oracle.read_properties(data[:USABLE], columns if has_columns else None, stop)
+    assert code <= COLUMN_TOO_LARGE, words
     log_length = 16 * len(records) + pick.randrange(40) if log_length is None else log_length
     room = log_length // 16
     if len(records) > room:
@@ -132,17 +128,10 @@ def skipping_to(place):
 CLOSING = [begin(1), xy(1, 2), end(1), FINISH]
 
 
-def written_by_oracle(column, kind, content):
+def written_by_oracle(column, kind, bits, text):
     """The oracle's number for a property, and its bytes."""
-    answer = oracle.write([prop(column, kind, content), *CLOSING], declared=1)
-    return answer["codes"][0], answer["features"][0][1]
-
-
-def given_to_oracle(kind, bits, text):
-    """What the oracle is given of a property: it takes no bits beyond a type's width."""
-    if kind >= STRING:
-        return text
-    return bits.to_bytes(8, "little")[:WIDTHS[kind]]
+    answer = oracle.write([prop(column, kind, bits, text), *CLOSING], declared=1)
+    return answer.numbers[0], answer.features[0].properties
 
 
 def written_case(kind, bits=0, text=b"", column=0, waiting=False, used=0, length=64):
@@ -151,10 +140,8 @@ def written_case(kind, bits=0, text=b"", column=0, waiting=False, used=0, length
         number = WAITING
     elif column > 65535:
         number = COLUMN_TOO_LARGE
-    elif kind < STRING and bits >= 256 ** WIDTHS[kind]:
-        number = MALFORMED
     else:
-        number, laid = written_by_oracle(column, kind, given_to_oracle(kind, bits, text))
+        number, laid = written_by_oracle(column, kind, bits, text)
         if number == DONE and used + len(laid) > min(length, USABLE):
             number = NO_ROOM
     laid = laid if number == DONE else b""

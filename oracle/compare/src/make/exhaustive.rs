@@ -1,0 +1,158 @@
+//! All short inputs over small alphabets.
+use super::records::{begin, coordinate, end, laid, xy, Node, TAGGED_TYPES, TYPES};
+use crate::input::{once, Call, Input, Properties, Row, Tree, What};
+
+pub fn each(give: &mut dyn FnMut(Input)) {
+    rows(give);
+    ends(give);
+    part_types(give);
+    boxes(give);
+    property_bytes(give);
+    texts(give);
+}
+
+const ONE: u64 = 0x3FF << 52;
+
+/// Every begin and end, tagged and not, two kinds of pair, a property, and a finish with its next.
+fn alphabet() -> Vec<Vec<What>> {
+    let mut letters = vec![
+        vec![once(xy(ONE, 1, 0))],
+        vec![once(coordinate(2, ONE, 15, [3, 4, 5, 6], 0))],
+        vec![What::Property { column: 1, kind: 1, bits: 7, text: vec![] }],
+        vec![What::Finish, What::Next],
+    ];
+    for kind in TYPES {
+        let tags = if TAGGED_TYPES.contains(&kind) { 0..2 } else { 0..1 };
+        for tagged in tags {
+            letters.push(vec![once(begin(kind, tagged, 0, 0))]);
+            letters.push(vec![once(end(kind, tagged, 0))]);
+        }
+    }
+    letters
+}
+
+/// Rows of up to three letters, each closed by a finish and a next: three for the declared types that have rules of their own, two
+/// for all others.
+fn rows(give: &mut dyn FnMut(Input)) {
+    let letters = alphabet();
+    for declared in (0..=18).chain([255]) {
+        let longest = if matches!(declared, 0 | 5 | 6 | 7) { 3 } else { 2 };
+        for switches in 0..4 {
+            for length in 0..=longest {
+                for code in 0..letters.len().pow(length) {
+                    let at = |place: u32| &letters[code / letters.len().pow(place) % letters.len()];
+                    let closing = [What::Finish, What::Next];
+                    let calls = (0..length).flat_map(at).chain(&closing).cloned().map(Call::from).collect();
+                    let (detect, promote) = (switches & 1 != 0, switches & 2 != 0);
+                    give(Input::Row(Row {
+                        declared,
+                        detect,
+                        promote,
+                        held: [320, 12, 5, 4, 4, 4, 4, 20],
+                        scrambled: false,
+                        calls,
+                    }));
+                }
+            }
+        }
+    }
+}
+
+/// Ends lists of up to three over 0 to 3, and one of 2^31, in every type that reads ends, over xy lists of up to seven words.
+fn ends(give: &mut dyn FnMut(Input)) {
+    let values = [0, 1, 2, 3, 1 << 31];
+    for length in 0..=3 {
+        for code in 0..values.len().pow(length) {
+            let ends: Vec<u64> = (0..length).map(|place| values[code / values.len().pow(place) % values.len()]).collect();
+            for kind in [3, 5, 16, 17, 6] {
+                for words in [None, Some(0), Some(1), Some(2), Some(4), Some(5), Some(6), Some(7)] {
+                    for flags in [0, 1] {
+                        give(Input::Tree(with_ends(kind, &ends, words, flags, code as u32)));
+                    }
+                }
+            }
+        }
+    }
+}
+
+fn with_ends(kind: u8, ends: &[u64], words: Option<u64>, flags: u8, cut: u32) -> Tree {
+    let own = |kind: u8| {
+        let xy = words.map(|count| (0..count).map(|i| ONE + i).collect());
+        Node { kind, lists: [xy, Some(ends.to_vec()), Some(vec![1, 2, 3]), None, None, None], parts: None }
+    };
+    let root = if kind == 6 { Node { kind, parts: Some(vec![own(3)]), ..Default::default() } } else { own(kind) };
+    Tree { store: laid(root, || 0), declared: 0, flags, cut }
+}
+
+/// Every type inside every type, under every declared type that there is, and every type number at the root.
+fn part_types(give: &mut dyn FnMut(Input)) {
+    let leaf = |kind: u8| Node {
+        kind,
+        lists: [Some(vec![1, 2, 3, 4]), Some(vec![1, 2]), None, None, None, None],
+        parts: Some(vec![Node { kind: 2, lists: [Some(vec![5, 6]), None, None, None, None, None], parts: None }]),
+    };
+    for declared in 0..=18 {
+        for stored in 0..=18 {
+            for kind in 0..=18 {
+                let root = Node { parts: Some(vec![leaf(kind), leaf(2)]), ..leaf(stored) };
+                give(Input::Tree(Tree { store: laid(root, || 0), declared, flags: 0, cut: kind.into() }));
+            }
+        }
+    }
+    for kind in 0..=255 {
+        give(Input::Tree(Tree { store: laid(leaf(kind), || 0), declared: 0, flags: 0, cut: kind.into() }));
+        give(Input::Tree(Tree { store: laid(leaf(3), || 0), declared: kind, flags: 2, cut: kind.into() }));
+    }
+}
+
+/// Three pairs over doubles that a comparison can get wrong: both zeros, ones, infinities, NaNs, the least.
+fn boxes(give: &mut dyn FnMut(Input)) {
+    let doubles = [0, 1 << 63, ONE, ONE | 1 << 63, 0x7FF << 52, 0xFFF << 52, 0x7FF8 << 48, 0xFFF0_0000_0000_0001, 1];
+    for code in 0..doubles.len().pow(3) {
+        let at = |place: u32| doubles[code / doubles.len().pow(place) % doubles.len()];
+        let words = vec![at(0), at(2), at(1), at(0), at(2), at(1)];
+        let root = Node { kind: 4, lists: [Some(words), None, None, None, None, None], parts: None };
+        give(Input::Tree(Tree { store: laid(root, || 0), declared: 0, flags: 0, cut: 0 }));
+    }
+}
+
+/// Strings of up to seven bytes over four, for every column type and one above.
+fn property_bytes(give: &mut dyn FnMut(Input)) {
+    let values = [0, 1, 2, 0xC3];
+    for length in 0..=7u32 {
+        for code in 0..values.len().pow(length) {
+            let bytes: Vec<u8> = (0..length).map(|place| values[code / values.len().pow(place) % values.len()]).collect();
+            for kind in 0..=15 {
+                // The longest only for the types that have a length before them, and for one that has none.
+                if length < 6 || matches!(kind, 1 | 11 | 14) {
+                    let columns = Some(vec![kind, 1]);
+                    give(Input::Properties(Properties {
+                        bytes: bytes.clone(),
+                        columns,
+                        stop: 65536 - code as u32 % 2,
+                        cut: code as u32,
+                    }));
+                }
+            }
+        }
+    }
+}
+
+/// Every text of one and two bytes, and of three and four over the bytes at which the rules of UTF-8 turn.
+fn texts(give: &mut dyn FnMut(Input)) {
+    let mut text = |text: &[u8]| {
+        let bytes = [&[0, 0, text.len() as u8, 0, 0, 0], text].concat();
+        give(Input::Properties(Properties { bytes, columns: Some(vec![11]), stop: 0, cut: 3 }));
+    };
+    (0..=255).for_each(|byte| text(&[byte]));
+    (0..=u16::MAX).for_each(|pair| text(&pair.to_be_bytes()));
+    let turns =
+        [0x00, 0x41, 0x7F, 0x80, 0x8F, 0x90, 0x9F, 0xA0, 0xBF, 0xC0, 0xC1, 0xC2, 0xDF, 0xE0, 0xE1, 0xEC, 0xED, 0xEE, 0xEF, 0xF0];
+    let turns: Vec<u8> = turns.into_iter().chain([0xF1, 0xF3, 0xF4, 0xF5, 0xFF]).collect();
+    for length in [3, 4] {
+        for code in 0..turns.len().pow(length) {
+            let bytes: Vec<u8> = (0..length).map(|place| turns[code / turns.len().pow(place) % turns.len()]).collect();
+            text(&bytes);
+        }
+    }
+}

@@ -1,0 +1,73 @@
+//! FlatGeobuf files that GDAL made: each feature's tables turned into the paper's records, read under the file's type and under its
+//! own with every set of flags, its property bytes read, and its events written again by both sides.
+use crate::input::{Call, Input, Properties, Row, Tree, What};
+use original::events::u32_at;
+use original::reading::read_feature;
+use original::tree::Store;
+use original::{size_prefixed_root_as_feature, size_prefixed_root_as_header};
+use std::path::Path;
+
+const MAGIC: [u8; 4] = *b"fgb\x03";
+
+/// How many features the folder's files hold, each given in all those ways.
+pub fn each(folder: &Path, give: &mut dyn FnMut(Input)) -> Result<usize, String> {
+    let mut paths: Vec<_> =
+        std::fs::read_dir(folder).map_err(|error| error.to_string())?.flatten().map(|entry| entry.path()).collect();
+    paths.retain(|path| path.extension().is_some_and(|extension| extension == "fgb"));
+    paths.sort();
+    let mut features = 0;
+    for path in paths {
+        let bytes = std::fs::read(&path).map_err(|error| error.to_string())?;
+        features += file(&bytes, give).ok_or(format!("{} is no file that this reads", path.display()))?;
+    }
+    Ok(features)
+}
+
+/// A file without an index: the magic bytes, a header, features; each of the two has its length before it.
+fn file(bytes: &[u8], give: &mut dyn FnMut(Input)) -> Option<usize> {
+    if bytes.get(..4)? != MAGIC {
+        return None;
+    }
+    let mut rest = &bytes[8..];
+    let header = size_prefixed_root_as_header(take(&mut rest)?).ok()?;
+    let columns = header.columns().map(|columns| columns.iter().map(|column| column.type_().0).collect::<Vec<_>>());
+    let mut features = 0;
+    while !rest.is_empty() {
+        feature(take(&mut rest)?, header.geometry_type().0, columns.as_deref(), give)?;
+        features += 1;
+    }
+    Some(features)
+}
+
+fn take<'b>(rest: &mut &'b [u8]) -> Option<&'b [u8]> {
+    let (taken, after) = rest.split_at_checked(4 + u32_at(rest.get(..4)?, 0) as usize)?;
+    *rest = after;
+    Some(taken)
+}
+
+fn feature(bytes: &[u8], declared: u8, columns: Option<&[u8]>, give: &mut dyn FnMut(Input)) -> Option<()> {
+    let feature = size_prefixed_root_as_feature(bytes).ok()?;
+    let store = Store::from_geometry(feature.geometry()?);
+    for flags in 0..16 {
+        for declared in [declared, 0] {
+            give(Input::Tree(Tree { store: store.clone(), declared, flags, cut: 40 }));
+        }
+        give(Input::Row(again(bytes, declared, flags)));
+    }
+    let bytes = feature.properties().map(|list| list.bytes().to_vec()).unwrap_or_default();
+    for stop in [65_536, 0, 1, 2] {
+        give(Input::Properties(Properties { bytes: bytes.clone(), columns: columns.map(<[u8]>::to_vec), stop, cut: 20 }));
+    }
+    Some(())
+}
+
+/// A row that writes the events of a feature twice.
+fn again(bytes: &[u8], declared: u8, flags: u8) -> Row {
+    let events = read_feature(bytes, declared, flags).events;
+    let mut calls: Vec<Call> = vec![];
+    for _ in 0..2 {
+        calls.extend(events.chunks(64).map(|event| What::Event { bytes: event.to_vec(), times: 1 }.into()));
+        calls.extend([What::Finish.into(), What::Next.into()]);
+    }
+    Row { declared, detect: false, promote: false, held: [64 * 64, 512, 64, 256, 256, 256, 256, 0], scrambled: true, calls }
+}

@@ -1,0 +1,10 @@
+//! The inputs: all short ones of a kind, random ones with damage, those at the limits, and real files.
+pub mod exhaustive;
+pub mod files;
+pub mod limits;
+pub mod lists;
+pub mod odd;
+pub mod pick;
+pub mod records;
+pub mod rows;
+pub mod trees;

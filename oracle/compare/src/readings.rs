@@ -1,0 +1,110 @@
+//! Trees and property bytes read by both sides, into logs with room enough, with just too little, and with some between; and boxes.
+//! `original::reading` says what there is the Rust's and what the paper's.
+use crate::input::{Properties, Tree};
+use crate::port::{self, Memory};
+use crate::tally::{Asked, Tally};
+use original::answer::{BAD_RECORD, DONE, LOG_FULL};
+use original::packed_r_tree::NodeItem;
+use original::reading;
+
+const UNTOUCHED: u8 = 0xA5;
+
+pub fn compare_tree(tree: &Tree, tally: &mut Tally) -> Result<(), String> {
+    let expected = reading::read(&tree.store, tree.declared, tree.flags);
+    let given = Memory::of(&tree.store);
+    let mut memory = given.clone();
+    for length in log_lengths(expected.events.len(), 64, tree.cut) {
+        let (number, events) = expected.cut((length / 64).min(reading::MOST_EVENTS));
+        let mut log = vec![UNTOUCHED; length];
+        let (answered, count) = port::read(&mut memory, tree.declared, tree.flags, &mut log);
+        if (answered, count as usize) != (number, events.len() / 64) {
+            let words = &expected.words;
+            return Err(format!(
+                "read answered {answered} after {count} events, not {number} after {} ({words})",
+                events.len() / 64
+            ));
+        }
+        check_log("read", &log, events)?;
+        tally.answered(Asked::Read, number);
+        tally.reads += 1;
+    }
+    tally.read(if tree.declared == 0 { tree.store.table.first().copied().unwrap_or_default() } else { tree.declared });
+    compare_boxes(tree, &mut memory, tally)?;
+    if memory != given {
+        return Err("a reading changed what it read".into());
+    }
+    Ok(())
+}
+
+/// Room enough and some bytes more, one record too few, and as many as `cut` says; each with a remainder under one record, or none.
+fn log_lengths(bytes: usize, record: usize, cut: u32) -> Vec<usize> {
+    let cut = cut as usize;
+    let mut lengths = vec![bytes + cut % (2 * record)];
+    if bytes > 0 {
+        lengths.push(bytes - 1 - cut % record);
+        lengths.push(cut % bytes);
+    }
+    lengths
+}
+
+fn check_log(what: &str, log: &[u8], expected: &[u8]) -> Result<(), String> {
+    let (written, rest) = log.split_at(expected.len());
+    if let Some(at) = (0..expected.len()).find(|at| written[*at] != expected[*at]) {
+        return Err(format!("{what}: byte {at} of the log is {}, not {}", written[at], expected[at]));
+    }
+    match rest.iter().position(|byte| *byte != UNTOUCHED) {
+        Some(at) => Err(format!("{what}: byte {} of the log was touched", expected.len() + at)),
+        None => Ok(()),
+    }
+}
+
+fn compare_boxes(tree: &Tree, memory: &mut Memory, tally: &mut Tally) -> Result<(), String> {
+    let records = (tree.store.table.len() / 64) as u32;
+    for n in [0, tree.cut % (records + 2), tree.cut] {
+        let words = tree.store.xy_of(n as usize);
+        let number = if words.is_some() { DONE } else { BAD_RECORD };
+        let expected = (number, bounds(words.unwrap_or_default()));
+        let answered = port::edges(memory, n);
+        if answered != expected {
+            return Err(format!("the box of record {n} is {answered:x?}, not {expected:x?}"));
+        }
+        tally.answered(Asked::Box, number);
+        tally.boxes += 1;
+    }
+    Ok(())
+}
+
+/// The Rust's own box, widened pair by pair.
+fn bounds(words: &[u64]) -> [u64; 4] {
+    let mut bounds = NodeItem::create(0);
+    for pair in words.chunks_exact(2) {
+        bounds.expand_xy(f64::from_bits(pair[0]), f64::from_bits(pair[1]));
+    }
+    [bounds.min_x, bounds.min_y, bounds.max_x, bounds.max_y].map(f64::to_bits)
+}
+
+/// Bytes past these are neither read nor changed.
+const MOST_PROPERTY_BYTES: usize = 65536;
+
+pub fn compare_properties(list: &Properties, tally: &mut Tally) -> Result<(), String> {
+    let usable = &list.bytes[..list.bytes.len().min(MOST_PROPERTY_BYTES)];
+    let rust = original::properties::read(usable, list.columns.as_deref(), list.stop);
+    for length in log_lengths(rust.records.len(), 16, list.cut) {
+        let room = length / 16 * 16;
+        let full = rust.records.len() > room;
+        let records = if full { &rust.records[..room] } else { &rust.records };
+        let expected = if full { (LOG_FULL, false) } else { (rust.number, rust.stopped) };
+        let mut log = vec![UNTOUCHED; length];
+        let (number, count, stopped) = port::read_properties(&list.bytes, list.columns.as_deref(), list.stop, &mut log);
+        if (number, count as usize, stopped) != (expected.0, records.len() / 16, expected.1 as u8) {
+            let (words, values) = (&rust.words, records.len() / 16);
+            return Err(format!(
+                "properties answered {number}, {stopped} after {count}, not {expected:?} after {values} ({words})"
+            ));
+        }
+        check_log("properties", &log, records)?;
+        tally.answered(Asked::ReadProperties, number);
+        tally.lists += 1;
+    }
+    Ok(())
+}

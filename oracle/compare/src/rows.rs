@@ -1,0 +1,350 @@
+//! Rows of calls to the two writers.
+//!
+//! The Rust's: whether types mix (5), the state after a call, every word and property byte laid down, and every finished tree.
+//! The paper's, by the small model here: 11, 15, 16, 6 and 12, where a part's lists stand before the tree is finished (the finished
+//! tree is then compared with the Rust's), where the pending lists begin, and that all else stays as it was.
+use crate::input::{Call, Row, What};
+use crate::port::{self, Lengths, Memory, Words, PROPERTIES, TABLE};
+use crate::tally::{Asked, Tally};
+use original::answer::{COLUMN_TOO_LARGE, DONE, MALFORMED, NOT_ITS_TURN, NO_ROOM};
+use original::events::is_malformed;
+use original::feature_writer::peek::State;
+use original::properties::value;
+use original::tree::{put_list, Store, ENDS, MOST_RECORDS, MOST_WORDS};
+use original::writing::Writer;
+
+const MOST_PROPERTY_BYTES: usize = 65536;
+const COLLECTION: u8 = 1;
+const FORCE_MULTI: u8 = 2;
+
+/// Compares a row, and gives the trees that were finished.
+pub fn compare(row: &Row, tally: &mut Tally) -> Result<Vec<Store>, String> {
+    let mut session = Session::new(row);
+    session.check("start", DONE, DONE)?;
+    for (i, call) in row.calls.iter().enumerate() {
+        session.call(call, tally).map_err(|words| format!("call {i}: {words}"))?;
+    }
+    tally.rows += 1;
+    Ok(session.trees)
+}
+
+struct Session<'r> {
+    row: &'r Row,
+    rust: Writer,
+    /// What the Rust has been given, to ask a writer like it something without changing it.
+    given: Vec<&'r What>,
+    words: Words,
+    memory: Memory,
+    /// As the memory must be.
+    expected: Memory,
+    /// Where each pending list begins.
+    start: [usize; 6],
+    /// The parts and property bytes of a finished feature that waits.
+    waiting: Option<(usize, usize)>,
+    noise: u64,
+    trees: Vec<Store>,
+}
+
+/// What an event adds: words to each pool, then perhaps a part.
+struct Additions {
+    words: [usize; 6],
+    part: bool,
+}
+
+fn additions(event: &[u8], mode: u8) -> Additions {
+    let (kind, untagged) = (event[0], event[1] == 0);
+    let mut words = [0; 6];
+    if kind >= 64 {
+        words[0] = 2;
+        (0..4).for_each(|i| words[2 + i] = usize::from(event[2] >> i & 1));
+    }
+    words[ENDS] = usize::from(kind == 34 && (untagged || mode == FORCE_MULTI));
+    let part = match kind {
+        33 | 34 => mode == COLLECTION,
+        35 => untagged || mode == COLLECTION || mode == FORCE_MULTI,
+        _ => false,
+    };
+    Additions { words, part }
+}
+
+impl<'r> Session<'r> {
+    fn new(row: &'r Row) -> Session<'r> {
+        let memory = Memory::new(row.held);
+        Session {
+            row,
+            rust: Writer::new(row.declared, row.detect, row.promote),
+            given: vec![],
+            words: port::start(row.declared, row.detect, row.promote),
+            expected: memory.clone(),
+            memory,
+            start: [0; 6],
+            waiting: None,
+            noise: 0x9E37_79B9_7F4A_7C15,
+            trees: vec![],
+        }
+    }
+
+    fn call(&mut self, call: &'r Call, tally: &mut Tally) -> Result<(), String> {
+        if self.row.scrambled {
+            self.scramble();
+        }
+        let lent = self.lent(call);
+        tally.calls += 1;
+        let (asked, expected, answered) = match &call.what {
+            What::Event { bytes, times } => {
+                let mut numbers = (DONE, DONE);
+                for _ in 0..*times {
+                    let before = self.rust.state().mode;
+                    numbers =
+                        (self.expect_event(&call.what, bytes, lent), port::event(&mut self.words, bytes, &mut self.memory, lent));
+                    tally.mode_changed(before, self.rust.state().mode);
+                    if numbers.0 != numbers.1 {
+                        break;
+                    }
+                }
+                if numbers.0 == DONE {
+                    tally.written(bytes[0] % 32);
+                }
+                (Asked::Event, numbers.0, numbers.1)
+            }
+            What::Property { column, kind, bits, text } => {
+                let expected = self.expect_property(&call.what, lent);
+                let answered = port::property(&mut self.words, *column, *kind, *bits, text, &mut self.memory, lent);
+                (Asked::Property, expected, answered)
+            }
+            What::Finish => {
+                let expected = self.expect_finish(&call.what, lent)?;
+                (Asked::Finish, expected, port::finish(&mut self.words, &mut self.memory, lent))
+            }
+            What::Next => {
+                let expected = self.expect_next(lent);
+                (Asked::Next, expected, port::next(&mut self.words, &mut self.memory, lent))
+            }
+        };
+        tally.answered(asked, expected);
+        self.check(&format!("{asked:?}"), expected, answered)
+    }
+
+    fn check(&self, what: &str, expected: u8, answered: u8) -> Result<(), String> {
+        if expected != answered {
+            return Err(format!("{what} answered {answered}, not {expected}"));
+        }
+        let words = self.expected_words();
+        if words != self.words {
+            return Err(format!("{what} left the state {:x?}, not {words:x?}", self.words));
+        }
+        if self.memory != self.expected {
+            return Err(format!("{what} answered {answered} and left other memory than it should"));
+        }
+        Ok(())
+    }
+
+    fn expected_words(&self) -> Words {
+        let state = self.rust.state();
+        let (parts, properties) = self.waiting.unwrap_or((state.parts, state.properties));
+        let bits = u8::from(self.row.detect) | u8::from(self.row.promote) << 1 | u8::from(self.waiting.is_some()) << 2;
+        let mut words = [0; 16];
+        words[0] = u32::from_le_bytes([state.declared, state.current, state.mode, bits]);
+        words[1] = parts as u32;
+        words[2] = properties as u32;
+        for pool in 0..6 {
+            words[4 + 2 * pool] = self.start[pool] as u32;
+            words[5 + 2 * pool] = state.pending[pool] as u32;
+        }
+        words
+    }
+
+    /// Of the table's records, each pool's words, and the property bytes.
+    fn used(&self) -> Lengths {
+        let state = self.rust.state();
+        let (parts, properties) = self.waiting.unwrap_or((state.parts, state.properties));
+        let records = if parts > 0 || self.waiting.is_some() { parts + 1 } else { 0 };
+        let pool = |i: usize| self.start[i] + state.pending[i];
+        [records, pool(0), pool(1), pool(2), pool(3), pool(4), pool(5), properties]
+    }
+
+    /// What is lent to a call. The table's remainder under one record is lent too, and is no room.
+    fn lent(&self, call: &Call) -> Lengths {
+        let mut lent = self.row.held;
+        if let Some((slice, spare)) = call.cut {
+            let slice = usize::from(slice);
+            let unit = if slice == TABLE { 64 } else { 1 };
+            let bytes = (self.used()[slice] as i64 + i64::from(spare)) * unit + unit - 1;
+            lent[slice] = lent[slice].min(bytes.max(0) as usize);
+        }
+        lent
+    }
+
+    fn has_room(&self, lent: Lengths, records: usize, more: [usize; 6]) -> bool {
+        let used = self.used();
+        let fits = |pool: usize| used[1 + pool] + more[pool] <= lent[1 + pool].min(MOST_WORDS[pool]);
+        records <= (lent[TABLE] / 64).min(MOST_RECORDS) && (0..6).all(fits)
+    }
+
+    fn expect_event(&mut self, what: &'r What, event: &[u8], lent: Lengths) -> u8 {
+        if is_malformed(event) {
+            return MALFORMED;
+        }
+        if self.waiting.is_some() {
+            return NOT_ITS_TURN;
+        }
+        let before = self.rust.state();
+        let adds = additions(event, before.mode);
+        let records = if adds.part { before.parts + 2 } else { self.used()[TABLE] };
+        if !self.has_room(lent, records, adds.words) {
+            let asked = if event[0] < 32 { self.twin().event(event) } else { DONE };
+            return if asked == DONE { NO_ROOM } else { asked };
+        }
+        let number = self.rust.event(event);
+        if number == DONE {
+            self.given.push(what);
+            self.lay_words(&before, &adds);
+        }
+        number
+    }
+
+    /// A writer that was given the same.
+    fn twin(&self) -> Writer {
+        let mut twin = Writer::new(self.row.declared, self.row.detect, self.row.promote);
+        for what in &self.given {
+            match what {
+                What::Event { bytes, .. } => drop(twin.event(bytes)),
+                What::Property { column, kind, bits, text } => drop(twin.property(*column, &value(*kind, *bits, text).unwrap())),
+                What::Finish => drop(twin.finish()),
+                What::Next => {}
+            }
+        }
+        twin
+    }
+
+    fn lay_words(&mut self, before: &State, adds: &Additions) {
+        let pending = self.rust.pending();
+        for pool in 0..6 {
+            let count = before.pending[pool];
+            for at in count..count + adds.words[pool] {
+                // The Rust has put the end into the part already; the finished tree shows it.
+                let word = if adds.part { before.pending[0] as u64 / 2 } else { pending.word(pool, at) };
+                self.expected.put_word(pool, self.start[pool] + at, word);
+            }
+        }
+        if adds.part {
+            let counts = std::array::from_fn(|pool| before.pending[pool] + adds.words[pool]);
+            self.lay_part(before.parts + 1, before.current, counts);
+        }
+    }
+
+    /// A record of an xy list, ends if there are two or more, and what else is not empty.
+    fn lay_part(&mut self, number: usize, kind: u8, counts: [usize; 6]) {
+        let record = &mut self.expected.table[64 * number..64 * number + 64];
+        record.fill(0);
+        record[0] = kind;
+        for (pool, count) in counts.into_iter().enumerate() {
+            let least = match pool {
+                0 => 0,
+                ENDS => 2,
+                _ => 1,
+            };
+            if count >= least {
+                put_list(record, pool, self.start[pool], count);
+                self.start[pool] += count;
+            }
+        }
+    }
+
+    fn expect_property(&mut self, call: &'r What, lent: Lengths) -> u8 {
+        let What::Property { column, kind, bits, text } = call else { unreachable!("asked of a property") };
+        if self.waiting.is_some() {
+            return NOT_ITS_TURN;
+        }
+        if *column > 65535 {
+            return COLUMN_TOO_LARGE;
+        }
+        let value = match value(*kind, *bits, text) {
+            Ok(value) => value,
+            Err(number) => return number,
+        };
+        let used = self.rust.properties().len();
+        let size = match *kind {
+            0..=2 => 1,
+            3 | 4 => 2,
+            5 | 6 | 9 => 4,
+            7 | 8 | 10 => 8,
+            _ => 4 + text.len(),
+        };
+        if used + 2 + size > lent[PROPERTIES].min(MOST_PROPERTY_BYTES) {
+            return NO_ROOM;
+        }
+        let number = self.rust.property(*column, &value);
+        self.given.push(call);
+        let laid = &self.rust.properties()[used..];
+        self.expected.properties[used..used + laid.len()].copy_from_slice(laid);
+        number
+    }
+
+    fn expect_finish(&mut self, call: &'r What, lent: Lengths) -> Result<u8, String> {
+        if self.waiting.is_some() {
+            return Ok(NOT_ITS_TURN);
+        }
+        let before = self.rust.state();
+        if !self.has_room(lent, before.parts + 1, [0; 6]) {
+            return Ok(NO_ROOM);
+        }
+        let feature = self.rust.finish();
+        self.given.push(call);
+        self.waiting = Some((before.parts, before.properties));
+        let table = &mut self.expected.table[..feature.tree.table.len()];
+        if table[64..] != feature.tree.table[64..] {
+            return Err("the Rust's parts are other records than the model's".into());
+        }
+        table.copy_from_slice(&feature.tree.table);
+        for (pool, words) in feature.tree.pools.iter().enumerate() {
+            self.start[pool] = words.len();
+            if words.iter().enumerate().any(|(at, word)| self.expected.word(pool, at) != *word) {
+                return Err(format!("the Rust's finished tree has other words in pool {pool} than the model's"));
+            }
+        }
+        if feature.properties != self.expected.properties[..before.properties] {
+            return Err("the Rust's finished feature has other property bytes".into());
+        }
+        self.trees.push(feature.tree);
+        Ok(DONE)
+    }
+
+    fn expect_next(&mut self, lent: Lengths) -> u8 {
+        let Some((parts, _)) = self.waiting else { return NOT_ITS_TURN };
+        if !self.has_room(lent, parts + 1, [0; 6]) {
+            return NO_ROOM;
+        }
+        self.waiting = None;
+        for (pool, count) in self.rust.state().pending.into_iter().enumerate() {
+            self.expected.move_to_front(pool, self.start[pool]..self.start[pool] + count);
+            self.start[pool] = 0;
+        }
+        DONE
+    }
+
+    /// Overwrites what the state does not use; the paper lets a caller do so between calls.
+    fn scramble(&mut self) {
+        let used = self.used();
+        for at in 64 * used[TABLE]..self.row.held[TABLE] {
+            self.memory.table[at] = self.noise() as u8;
+        }
+        for pool in 0..6 {
+            for at in used[1 + pool]..self.row.held[1 + pool] {
+                let word = self.noise();
+                self.memory.put_word(pool, at, word);
+            }
+        }
+        for at in used[PROPERTIES]..self.row.held[PROPERTIES] {
+            self.memory.properties[at] = self.noise() as u8;
+        }
+        self.expected.clone_from(&self.memory);
+    }
+
+    fn noise(&mut self) -> u64 {
+        self.noise ^= self.noise << 13;
+        self.noise ^= self.noise >> 7;
+        self.noise ^= self.noise << 17;
+        self.noise
+    }
+}

@@ -1,0 +1,84 @@
+//! What a run has compared: how many of each sort, and what they covered.
+use std::collections::{BTreeMap, BTreeSet};
+use std::fmt;
+
+#[derive(Clone, Copy, Debug, PartialEq, Eq, PartialOrd, Ord)]
+pub enum Asked {
+    Event,
+    Property,
+    Finish,
+    Next,
+    Read,
+    ReadProperties,
+    Box,
+}
+
+#[derive(Default)]
+pub struct Tally {
+    pub rows: u64,
+    pub reads: u64,
+    pub lists: u64,
+    pub boxes: u64,
+    pub calls: u64,
+    numbers: BTreeMap<(Asked, u8), u64>,
+    modes: BTreeMap<(u8, u8), u64>,
+    types_written: BTreeSet<u8>,
+    types_read: BTreeSet<u8>,
+}
+
+const MODES: [&str; 3] = ["Normal", "GeometryCollection", "ForceMulti"];
+
+impl Tally {
+    pub fn compared(&self) -> u64 {
+        self.rows + self.reads + self.lists
+    }
+
+    pub fn answered(&mut self, asked: Asked, number: u8) {
+        *self.numbers.entry((asked, number)).or_default() += 1;
+    }
+
+    pub fn mode_changed(&mut self, from: u8, to: u8) {
+        *self.modes.entry((from, to)).or_default() += 1;
+    }
+
+    pub fn written(&mut self, kind: u8) {
+        self.types_written.insert(kind);
+    }
+
+    pub fn read(&mut self, kind: u8) {
+        self.types_read.insert(kind);
+    }
+
+    /// The paper's refusals, types and changes of mode that no input came to.
+    pub fn missing(&self) -> Vec<String> {
+        let mut missing = vec![];
+        let answered = |number| self.numbers.keys().any(|(_, given)| *given == number);
+        missing.extend((0..=16).filter(|number| !answered(*number)).map(|number| format!("number {number}")));
+        let types = (1..=17u8).filter(|kind| !matches!(kind, 13 | 14));
+        missing.extend(types.filter(|kind| !self.types_written.contains(kind)).map(|kind| format!("type {kind} written")));
+        missing.extend((0..=255u8).filter(|kind| !self.types_read.contains(kind)).map(|kind| format!("type {kind} read")));
+        let changes = [(0, 1), (0, 2), (1, 0), (1, 2), (2, 0), (2, 1)];
+        missing.extend(changes.iter().filter(|change| !self.modes.contains_key(change)).map(|change| format!("mode {change:?}")));
+        missing
+    }
+}
+
+impl fmt::Display for Tally {
+    fn fmt(&self, to: &mut fmt::Formatter) -> fmt::Result {
+        writeln!(to, "rows {}, reads {}, property lists {}, together {}", self.rows, self.reads, self.lists, self.compared())?;
+        writeln!(to, "calls in rows {}, boxes {}", self.calls, self.boxes)?;
+        let mut last = None;
+        for ((asked, number), count) in &self.numbers {
+            if last != Some(asked) {
+                write!(to, "{}{asked:?} answered", if last.is_some() { "\n" } else { "" })?;
+            }
+            write!(to, "  {number}: {count}")?;
+            last = Some(asked);
+        }
+        write!(to, "\nmodes")?;
+        for ((from, mode), count) in &self.modes {
+            write!(to, "  {} to {}: {count}", MODES[usize::from(*from)], MODES[usize::from(*mode)])?;
+        }
+        writeln!(to)
+    }
+}
