@@ -1,0 +1,14 @@
+// A finished feature, read back, judged and shown.
+mod boxes;
+mod feature;
+mod names;
+mod row;
+mod values;
+mod verdict;
+
+pub use feature::Feature;
+pub use feature::show_geometry;
+pub use feature::show_properties;
+pub use names::COLUMNS;
+pub use names::NAME_BYTES;
+pub use verdict::KEPT;
