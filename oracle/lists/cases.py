@@ -4,6 +4,9 @@ A case is a frame: its length (u32), then its numbers (u32 each; a word takes th
 """
 import struct
 
+# What a case of crates/writer_cases calls.
+START, EVENT, FINISH, NEXT = range(4)
+
 
 def number(n):
     return struct.pack("<I", n)

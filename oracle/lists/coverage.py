@@ -6,13 +6,19 @@ Everything is found in the lists themselves, as the programs replay them. The an
 """
 import collections, struct, sys
 
+import differences
+from cases import EVENT, FINISH, NEXT, START
+from client import store
+
 TYPES = set(range(1, 18)) - {13, 14}
-MODES = ("Normal", "GeometryCollection", "ForceMulti")
 CHANGES = {(0, 1), (0, 2), (1, 0), (1, 2), (2, 0), (2, 1)}
-START, EVENT, FINISH, NEXT = range(4)
+USABLE, NO_STOP, TOP = 65536, 65536, 2**32 - 1
+HEARD, SAID, RECORD, BOX = range(4)
 Call = collections.namedtuple("Call", "what number event state")
-Tree = collections.namedtuple("Tree", "declared flags kind present counts ends readings")
-Written = collections.namedtuple("Written", "number column kind bits")
+Tree = collections.namedtuple("Tree", "declared flags lists events readings")
+Read = collections.namedtuple("Read", "number columns stop data values")
+Written = collections.namedtuple("Written", "number used column kind bits length text")
+Ground = collections.namedtuple("Ground", "sort number rest")
 
 
 def frames(path):
@@ -42,37 +48,46 @@ def rows(path):
     return found
 
 
+def heads(descriptions):
+    """Their heads. What is small is all head."""
+    while descriptions:
+        head, group, _, tail = descriptions[:4]
+        yield descriptions[4:4 + head]
+        descriptions = descriptions[4 + head + 2 * group + tail:]
+
+
 def trees(path):
     for case in frames(path):
         row = numbers(case)
         readings = [row[15 + 4 * i:19 + 4 * i] for i in range(row[14])]
-        descriptions = row[15 + 4 * row[14]:]
-        head, group = descriptions[:2]
-        root = descriptions[4:4 + (head or group)]
-        after = descriptions[4 + head + 2 * group + descriptions[3]:]
-        ends = after[4:4 + after[0] + after[1]]
-        kind, present = (root[0] & 255, root[0] >> 8 & 255) if root else (0, 0)
-        yield Tree(row[0], row[1], kind, present, root[2:16:2], ends, readings)
+        *lists, events = heads(row[15 + 4 * row[14]:])
+        yield Tree(row[0], row[1], lists, events, readings)
+
+
+def lists_of(tree):
+    """The table, the ends, xy, z, m, t and tm, as a case of a tree has them."""
+    made = store(tree)
+    xy, ends, *values = made.pools
+    return [numbers(made.table), tuple(ends), *[numbers(struct.pack(f"<{len(pool)}Q", *pool)) for pool in (xy, *values)]]
+
+
+def words_of(events):
+    said = struct.pack(f"<{len(events)}I", *events)
+    return " ".join(differences.word_of(said[at:at + 64]) for at in range(0, len(said), 64))
 
 
 def properties(path):
-    """The numbers of what was read, and what was written."""
-    read, written = set(), []
+    """What was read, and what was written."""
+    read, written = [], []
     for case in frames(path):
         row = numbers(case[:44])
         if row[0] == 0:
-            read.add(row[1])
+            columns, data, records = case[36:36 + row[6]], case[36 + row[6]:36 + row[6] + row[8]], case[36 + row[6] + row[8]:]
+            values = [value for _, value in struct.iter_unpack("<QQ", records)]
+            read.append(Read(row[1], list(columns) if row[5] else None, row[7], data, values))
         else:
-            written.append(Written(row[1], row[5], row[6], row[7] | row[8] << 32))
+            written.append(Written(row[1], row[4], row[5], row[6], row[7] | row[8] << 32, row[9], case[44:44 + row[10]]))
     return read, written
-
-
-def finished(row):
-    """The events of a row's first feature and its finish, if it was finished."""
-    for i, call in enumerate(row):
-        if call.what == FINISH and call.number == 0:
-            return tuple(b"".join(before.event[:1] for before in row[1:i])), call.state
-    return (), ()
 
 
 class Lists:
@@ -80,29 +95,42 @@ class Lists:
         self.rows = rows(crates + "/writer_cases/stdin")
         self.trees = list(trees(crates + "/reader_cases/stdin"))
         self.read, self.written = properties(crates + "/property_cases/stdin")
-        self.ground = [numbers(case[:8]) for case in frames(crates + "/ground_cases/stdin")]
+        self.ground = [Ground(*numbers(case[:8]), case[8:]) for case in frames(crates + "/ground_cases/stdin")]
         self.calls = [call for row in self.rows for call in row]
 
     def refusals(self):
         given = {call.number for call in self.calls} | {number for tree in self.trees for _, _, number, _ in tree.readings}
-        return given | self.read | {case.number for case in self.written} | {number for _, number in self.ground}
+        return given | {case.number for case in self.read + self.written} | {case.number for case in self.ground}
 
     def types_written(self):
         return {call.event[0] % 32 for call in self.calls if call.what == EVENT and call.number == 0 and call.event[0] < 64}
 
     def types_read(self):
-        return {tree.declared or tree.kind for tree in self.trees if any(number == 0 for _, _, number, _ in tree.readings)}
+        return {tree.declared or tree.lists[0][0] & 255 for tree in self.trees if any(number == 0 for _, _, number, _ in tree.readings)}
 
     def changes(self):
         return {(a.state[4], b.state[4]) for row in self.rows for a, b in zip(row, row[1:]) if a.state[4] != b.state[4]}
 
-    def wrote(self, declared, events, parts, current=None):
-        """A feature of these event kinds, under a declared type and with neither switch, that was finished with so many parts."""
-        for row in self.rows:
-            kinds, state = finished(row)
-            if kinds == events and row[0].state[:3] == (declared, 0, 0) and state[6] == parts and current in (None, state[3]):
-                return True
-        return False
+    def has(self, given):
+        """Whether an input of a difference is in the lists with the answer that its entry tells of."""
+        has_sort = {differences.Row: self.has_row, differences.Reading: self.has_reading, differences.Values: self.has_values}
+        return has_sort[type(given)](given)
+
+    def has_row(self, given):
+        start = (given.declared, 0, given.promote)
+        calls = list(differences.each_call(given.calls))
+        roots = [(root["type"], len(root.get("parts") or ())) for root in given.trees]
+        return any(start == row[0].state[:3]
+                   and calls == [(call.event if call.what == EVENT else call.what, call.number) for call in row[1:]]
+                   and roots == [(call.state[3], call.state[6]) for call in row if call.what == FINISH] for row in self.rows)
+
+    def has_reading(self, given):
+        lists = lists_of(given.tree)
+        return any((tree.declared, tree.flags, tree.lists) == (given.declared, given.flags, lists)
+                   and tree.readings[0][2] == given.number and words_of(tree.events) == given.said for tree in self.trees)
+
+    def has_values(self, given):
+        return Read(given.number, [given.column], NO_STOP, bytes.fromhex(given.data), given.values) in self.read
 
     def was_read(self, number, events=None, where=lambda tree: True):
         return any(where(tree) and any(given == number and events in (None, count) for _, _, given, count in tree.readings)
@@ -111,46 +139,71 @@ class Lists:
     def was_written(self, number, where=lambda case: True):
         return any(case.number == number and where(case) for case in self.written)
 
+    def was_laid(self, sort, number, where=lambda rest: True):
+        return any((case.sort, case.number) == (sort, number) and where(case.rest) for case in self.ground)
+
     def was_called(self, what, number, where=lambda call: True):
         return any(call.what == what and call.number == number and where(call) for call in self.calls)
 
 
-RING = (2, 64, 64, 64, 64, 34)
+# A pair, a part, and an end within a collection and without, each with its pool or table full.
+BEYOND = (
+    lambda call: call.event[0] == 64 and call.state[9] == 2 * USABLE,
+    lambda call: call.event[0] == 33 and call.state[6] == 4095,
+    lambda call: call.event[0] == 34 and call.state[11] == USABLE and call.state[4] == 0,
+    lambda call: call.event[0] == 34 and call.state[11] == USABLE and call.state[4] == 1,
+)
+# What an entry tells beyond the inputs that `differences.py` has for it. A log of 1,048,577 records is longer than the programs lend.
 ENTRIES = {
-    "B3": lambda lists: lists.wrote(3, (3, 35), 0) and lists.was_read(0, 4, lambda t: t.kind == 3 and t.counts[:1] == (0,)),
-    "B7": lambda lists: lists.wrote(6, (6, 38), 0) and lists.was_read(2, 0, lambda t: t.kind == 6 and t.present == 1),
-    "B8": lambda lists: lists.wrote(7, (7, 3, *RING, 35, 39), 2),
-    "B9": lambda lists: lists.wrote(0, (7, 1, 64, 33, 39), 1, 1) and lists.was_read(1, 1, lambda t: t.declared in (0, 1) and t.present == 64),
-    "a pair past its list (B10)": lambda lists: lists.was_read(7, 1, lambda t: t.kind == 1 and t.counts[:1] == (0,)),
-    "a z, m, t or tm value past its list": lambda lists: lists.was_read(7, None, lambda t: t.flags),
-    "an end below the one before (B11)": lambda lists: lists.was_read(8, 6, lambda t: t.kind == 5 and 3 in t.ends),
-    "an end of 2^31 or more": lambda lists: lists.was_read(8, None, lambda t: any(end >= 2**31 for end in t.ends)),
-    "a property value cut short": lambda lists: 14 in lists.read,
-    "a column above 65,535": lambda lists: lists.was_written(16, lambda case: case.column == 65536),
-    "text that is not UTF-8, written": lambda lists: lists.was_written(6, lambda case: case.kind == 11),
-    "a value beyond its type": lambda lists: lists.was_written(11, lambda case: (case.kind, case.bits) == (2, 2)),
-    "a collection nested deeper than 16": lambda lists: lists.was_read(13),
-    "Events as 64-byte records.": lambda lists: (0, 11) in lists.ground and lists.was_called(EVENT, 11),
-    "Geometry records and tables.": lambda lists: (2, 10) in lists.ground and lists.was_read(10),
-    "Limits.": lambda lists: lists.was_called(EVENT, 12, lambda c: c.state[6] == 4095) and lists.was_called(EVENT, 12, lambda c: c.state[9] == 131072)
-    and lists.was_called(EVENT, 12, lambda c: c.state[11] == 65536) and lists.was_written(12) and lists.was_read(9),
+    "TIN with no xy": lambda lists: lists.was_read(0, 2, lambda tree: tree.events[:2] == (16, 1)),
+    "column above 65,535": lambda lists: lists.was_written(16, lambda case: case.column == 65536),
+    "text not UTF-8, written": lambda lists: lists.was_written(6, lambda case: (case.kind, case.text) == (11, b"\x80")),
+    "value beyond its type": lambda lists: lists.was_written(11, lambda case: (case.kind, case.bits) == (2, 2))
+    and lists.was_written(11, lambda case: (case.kind, case.bits) == (0, 256)) and lists.was_written(11, lambda case: case.kind == 15),
+    "level 17": lambda lists: lists.was_read(13, 16, lambda tree: is_spare_set(tree, 16)),
+    "bad record or table": lambda lists: lists.was_laid(RECORD, 10)
+    and all(lists.was_read(10, 0, lambda tree: tree.declared == declared and is_spare_set(tree, 0)) for declared in (0, 255)),
+    "malformed event": lambda lists: lists.was_laid(HEARD, 11, lambda event: event[3:4] == b"\1")
+    and lists.was_called(EVENT, 11, lambda call: call.event[3:4] == b"\1"),
+    "limits": lambda lists: all(lists.was_called(EVENT, 12, beyond) for beyond in BEYOND)
+    and lists.was_written(12, lambda case: case.kind == 1 and case.used + 3 == USABLE + 1 <= case.length) and lists.was_read(9),
+    "turn": lambda lists: lists.was_called(EVENT, 15),
+    "a begin's size": lambda lists: lists.was_called(EVENT, 0, lambda call: struct.unpack_from("<BxxxI", call.event) == (2, TOP)),
+    "Events as 64-byte records.": lambda lists: all(lists.was_laid(HEARD, number) for number in (0, 11)),
+    "Geometry records and tables.": lambda lists: all(lists.was_laid(RECORD, number) and lists.was_read(number) for number in (0, 10)),
+    "Limits.": lambda lists: lists.was_called(EVENT, 12) and lists.was_written(12) and lists.was_read(9) and lists.was_laid(SAID, 9),
     "Turns.": lambda lists: all(lists.was_called(what, 15) for what in (EVENT, FINISH, NEXT)),
-    "Boxes by record number.": lambda lists: {(3, 0), (3, 10)} <= set(lists.ground),
-    "A begin's size": lambda lists: lists.was_called(EVENT, 0, lambda c: c.event[0] in TYPES and c.event[4:8] == b"\xff" * 4),
+    "Boxes by record number.": lambda lists: all(lists.was_laid(BOX, number) for number in (0, 10)),
+    "A begin's size": lambda lists: all(lists.was_laid(HEARD, number, lambda event: event[:1] == kind and any(event[4:8]))
+                                        for kind, number in ((b"\2", 0), (b"\1", 11))),
 }
 
 
+def is_spare_set(tree, record):
+    """Of a record's first number, the upper half is spare."""
+    return any(first >> 16 for first in tree.lists[0][16 * record:16 * record + 1])
+
+
 def entries(path):
-    """First cells of the tables, and bold words at the head of a point."""
+    """A row of a table by its name, or by its input where it has none; a point by the bold words at its head."""
     for line in open(path):
-        if line.startswith("| ") and not line.startswith("| |"):
-            yield line[2:].split(" |")[0]
+        if line.startswith("| "):
+            first, second = line.split("|")[1:3]
+            yield first.strip() or second.strip()
         elif line.startswith("- **"):
             yield line[4:].split("**")[0]
 
 
+def is_covered(entry, lists):
+    if entry not in differences.INPUTS and entry not in ENTRIES:
+        return False
+    return all(map(lists.has, differences.INPUTS.get(entry, []))) and (entry not in ENTRIES or ENTRIES[entry](lists))
+
+
 def main():
     lists, missing = Lists(sys.argv[1]), []
+    told = [entry for entry in entries(sys.argv[2]) if entry != "smallest input"]
+    assert len(told) == len(set(told)), "two entries of one name"
 
     def show(what, wanted, found):
         absent = sorted(set(wanted) - set(found))
@@ -161,8 +214,8 @@ def main():
     show("type written", TYPES, lists.types_written())
     show("type read", TYPES, lists.types_read())
     show("change of mode", CHANGES, lists.changes())
-    covered = [entry for entry, holds in ENTRIES.items() if holds(lists)]
-    show("entry of docs/DIFFERENCES.md", list(entries(sys.argv[2])), covered)
+    show("entry of docs/DIFFERENCES.md", told, [entry for entry in told if is_covered(entry, lists)])
+    show("name of an entry here", differences.INPUTS.keys() | ENTRIES.keys(), told)
     for one in missing:
         print("not covered:", one)
     sys.exit(bool(missing))

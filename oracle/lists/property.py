@@ -15,6 +15,7 @@ The numbers of a case, by their index; a word takes two.
 """
 import itertools, random, struct, sys
 
+import differences
 from cases import frame, word
 from client import FINISH, Oracle, begin, end, prop, xy
 
@@ -115,6 +116,8 @@ def read_cases():
         yield read_case(full + tail, [1, STRING], stop=0, log_length=length)
     for place in (USABLE - 3, USABLE - 2, USABLE - 1, USABLE):
         yield read_case(skipping_to(place) + item(1, 1, 77), [255, 1])
+    for given in differences.inputs_of(differences.Values):
+        yield read_case(bytes.fromhex(given.data), [given.column])
 
 
 def skipping_to(place):

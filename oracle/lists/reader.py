@@ -18,8 +18,9 @@ Whatever was laid out so is compared here with what it stands for, the oracle's 
 """
 import collections, itertools, random, struct, sys
 
+import differences
 from cases import frame
-from client import Oracle, Store, ev
+from client import Oracle, Store, ev, store
 
 WHOLE, CUT, BAD, LARGE = range(4)
 DONE, XY_ABSENT, PARTS_ABSENT, TYPE_UNKNOWN, NOT_A_CURVE = range(5)
@@ -574,12 +575,22 @@ def large_cases():
     yield large(record(POLYGON, 3, [0, 0, 0, most // 2] + [0] * 10), [[], [0] * (most // 2)] + empty[2:], dict(ends=(0, 1, 0)), 2)
 
 
+def difference_cases():
+    """The smallest inputs of docs/DIFFERENCES.md, and a bad record under every sort of declared type."""
+    for given in differences.inputs_of(differences.Reading):
+        made = store(given.tree)
+        yield case(made.table, made.pools, given.declared, given.flags)
+    point = store(dict(type=POINT, xy=pair()))
+    for declared in (0, POINT, COLLECTION, 13, 255):
+        yield case(changed(point.table, 2, 1, 1), point.pools, declared)
+
+
 def main():
     write = sys.stdout.buffer.write
     for tree, declared, flags in trees():
         table, pools = laid(tree)
         write(case(table, pools, declared, flags))
-    for framed in itertools.chain(bad_cases(), large_cases()):
+    for framed in itertools.chain(bad_cases(), large_cases(), difference_cases()):
         write(framed)
     for what, count in sorted(counts.items(), key=str):
         print(what, count, file=sys.stderr)

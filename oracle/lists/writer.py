@@ -20,10 +20,10 @@ A start's lent lengths are the row's memory: its canaries, and the checksums of 
 """
 import collections, copy, itertools, random, struct, sys
 
-from cases import frame, word
-from client import FINISH as FINISH_ITEM, Oracle, begin, end, ev
+import differences
+from cases import EVENT, FINISH, NEXT, START, frame, word
+from client import FINISH as FINISH_ITEM, Oracle, begin, end, ev, store
 
-START, EVENT, FINISH, NEXT = range(4)
 DONE, MIXED, MALFORMED, NO_ROOM, NOT_ITS_TURN = 0, 5, 11, 12, 15
 NORMAL, COLLECTION, FORCE_MULTI = range(3)
 MODES = ("Normal", "GeometryCollection", "ForceMulti")
@@ -455,6 +455,16 @@ def bench_rows():
         yield row
 
 
+def difference_rows():
+    """The smallest inputs of docs/DIFFERENCES.md: this script stops where one is answered otherwise than its entry says."""
+    for given in differences.inputs_of(differences.Row):
+        row = Row(given.declared, 0, given.promote)
+        for call, number in differences.each_call(given.calls):
+            assert make(call, row, None) == number, given
+        assert row.trees == [(made.table, made.pools) for made in map(store, given.trees)], given
+        yield row
+
+
 LONG = (4098, 0, 131076, 65538, 65538, 65538, 65538, 65538)
 
 
@@ -507,7 +517,7 @@ def limit_rows():
 def main():
     sorts = dict(nested=nested_rows(), types=type_rows(), declared=other_declared_rows(), wild=wild_rows(350, 30, 0),
                  tight=wild_rows(250, 30, 0.3), leftovers=leftover_rows(), order=order_rows(), room=room_rows(), bench=bench_rows(),
-                 limits=limit_rows())
+                 limits=limit_rows(), differences=difference_rows())
     for name, rows in sorts.items():
         laid = [row.done() for row in rows]
         sys.stdout.buffer.write(b"".join(itertools.chain(*laid)))

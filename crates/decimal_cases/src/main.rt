@@ -1,4 +1,4 @@
-// Prints the numbers of standard input in decimal, one to a line: oracle/lists/decimal.py makes them, and what is to be printed.
+// Prints the numbers of standard input in decimal, one to a line: oracle/lists/decimals.py makes them, and what is to be printed.
 use layout::u32_at;
 use layout::u64_at;
 use libc::STDIN_FILENO;

@@ -1,5 +1,5 @@
 #!/usr/bin/env python3
-"""Numbers, and how Python prints them with seven digits: oracle/lists/decimal.py crates/decimal_cases
+"""Numbers, and how Python prints them with seven digits: oracle/lists/decimals.py crates/decimal_cases
 
 Writes stdin, a record of nine bytes for each number (d or f, then its bits), and stdout, a line for each.
 """
