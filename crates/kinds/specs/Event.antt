@@ -68,6 +68,10 @@ wellFormed e =
     && (bitSet (e .present) 4 || eqb (e .t) 0)
     && (bitSet (e .present) 8 || eqb (e .tm) 0)
 
+-- no more than an index and a pair
+unfoldable pub isBare : Event → Bool
+isBare e = not (e .tagged) && eqb (e .present) 0 && eqb (e .size) 0 && eqb (e .z) 0 && eqb (e .m) 0 && eqb (e .t) 0 && eqb (e .tm) 0
+
 -- the paper's number for each case: done, or 11
 abbrev pub parsedNumber : Parsed → ℕ
 parsedNumber (WellFormed e) = 0

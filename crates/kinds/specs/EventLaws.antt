@@ -1,12 +1,13 @@
 -- Laws of events.
 use mathlib.Core.Path.{_≡_, refl}
-use mathlib.Core.Bool.{Bool, true, false, _&&_, _||_, Bool·beq}
+use mathlib.Core.Bool.{Bool, true, false, not, _&&_, _||_, Bool·beq}
 use Prim.Native.Nat.{ℕ, _+_, _≤_, _<_}
-use lib.Dec.{eqb}
-use borrow.Author.Tests.{ne-eqb}
+use lib.Dec.{ltb, eqb}
+use borrow.Author.Tests.{eqb-true, ne-eqb}
 use Rattle.laws.specs.Every.{never, both, other, every, every-at}
+use Rattle.kinds.specs.declared.event.Event.{Event}
 use Rattle.kinds.specs.declared.event.Uses.{Uses}
-use Rattle.kinds.specs.Event.{usesOf}
+use Rattle.kinds.specs.Event.{usesOf, bitSet, isBare, wellFormed}
 
 -- ---- what a range of kinds uses, by a test that antt computes over the range
 abbrev pub same : Uses → Uses → Bool
@@ -43,3 +44,16 @@ pub uses-past : (u : Uses) (kind : ℕ) → every (λ x. pair x || same u (usesO
 uses-past u kind t h k a b =
     same-eq u (usesOf kind)
     (other (pair kind) (same u (usesOf kind)) (rw (ne-eqb kind 64 a, ne-eqb kind 65 b)) (every-at (λ x. pair x || same u (usesOf x)) 50 206 kind t h k))
+
+-- ---- kind 64: nothing stands beside the pair
+pair-rules : (tagged size z m t tm : Bool) (present : ℕ) (none : Bool) → eqb present 0 ≡ none
+    → (not tagged && eqb present 0 && size && z && m && t && tm)
+    ≡ (true && (false || not tagged) && (false || eqb present 0) && ltb present 16 && (false || size) && true && true && (bitSet present 1 || z) && (bitSet present 2 || m) && (bitSet present 4 || t) && (bitSet present 8 || tm))
+pair-rules true size z m t tm present none h = refl
+pair-rules false true z m t tm present true h = rw (eqb-true present 0 h)
+pair-rules false false z m t tm present true h = rw (eqb-true present 0 h)
+pair-rules false size z m t tm present false h = rw h
+
+pub bare-formed : (e : Event) → e .kind ≡ 64 → isBare e ≡ wellFormed e
+unfolding isBare wellFormed
+bare-formed e h = rw h (pair-rules (e .tagged) (eqb (e .size) 0) (eqb (e .z) 0) (eqb (e .m) 0) (eqb (e .t) 0) (eqb (e .tm) 0) (e .present) (eqb (e .present) 0) refl)

@@ -4,7 +4,7 @@ ghost use mathlib.Core.Path.{_≡_};
 ghost use mathlib.Core.Bool.{_||_};
 ghost use Prim.Native.Nat.{_+_, _<_};
 ghost use lib.Dec.{eqb};
-ghost use Rattle.kinds.specs.Event.{usesOf, wellFormed, beginE, endE, xyE, coordinateE, bitSet};
+ghost use Rattle.kinds.specs.Event.{usesOf, isBare, wellFormed, beginE, endE, xyE, coordinateE, bitSet};
 
 pub struct Event {
     pub kind: u8,
@@ -190,10 +190,26 @@ impl Event {
         }
     }
 
+    // Whether it has no more than an index and a pair: the test of kind 64, by far the commonest.
+    fn is_bare(self) -> bool
+        ensures { λ r. ⌜ r ≡ isBare self ⌝ }
+    {
+        !self.tagged
+            & (self.present == 0)
+            & (self.size == 0)
+            & (self.z == 0)
+            & (self.m == 0)
+            & (self.t == 0)
+            & (self.tm == 0)
+    }
+
     // Whether its kind is one, and each field that the kind does not use, and each absent value, is zero.
     pub fn well_formed(self) -> bool
         ensures { λ r. ⌜ r ≡ wellFormed self ⌝ }
     {
+        if self.kind == Event::XY {
+            return self.is_bare();
+        }
         let uses = Event::uses(self.kind);
         let present = self.present;
         uses.idx

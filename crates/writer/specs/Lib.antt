@@ -4,5 +4,6 @@ pub mod Calls
 pub mod Room
 pub mod Move
 pub mod Ends
+pub mod Pair
 pub mod Refused
 pub mod Property

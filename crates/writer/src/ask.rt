@@ -23,6 +23,15 @@ pub struct Added {
 }
 
 impl Added {
+    pub const PAIR: Added = Added {
+        xy: true,
+        ends: false,
+        z: false,
+        m: false,
+        t: false,
+        tm: false,
+    };
+
     pub const NONE: Added = Added {
         xy: false,
         ends: false,

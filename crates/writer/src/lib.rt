@@ -2,6 +2,7 @@
 mod ask;
 mod decide;
 mod memory;
+mod pair;
 mod part;
 mod pending;
 mod properties;
@@ -13,6 +14,8 @@ use ask::ask_of;
 use kinds::event::Parsed;
 use kinds::geometry::Lent;
 use kinds::refusal;
+use pair::is_alone;
+use pair::take_alone;
 use pending::end_of;
 pub use properties::property;
 pub use state::Pending;
@@ -73,21 +76,20 @@ pub fn event(
             state: s,
         };
     };
-    let a = ask_of(s.typing, e);
     let lent = store::records_lent(table);
-    let taken = decide::decide_event(
-        s,
-        a,
-        lent,
-        Lent {
-            xy: xy.len(),
-            ends: ends.len(),
-            z: z.len(),
-            m: m.len(),
-            t: t.len(),
-            tm: tm.len(),
-        },
-    );
+    let pools = Lent {
+        xy: xy.len(),
+        ends: ends.len(),
+        z: z.len(),
+        m: m.len(),
+        t: t.len(),
+        tm: tm.len(),
+    };
+    if is_alone(e) {
+        return take_alone(s, e.x, e.y, lent, pools, xy);
+    }
+    let a = ask_of(s.typing, e);
+    let taken = decide::decide_event(s, a, lent, pools);
     if taken.number == refusal::DONE {
         memory::finish_part(table, s, a);
         memory::push_pair(xy, s.pending.xy, a.added.xy, e.x, e.y);

@@ -40,7 +40,7 @@ pub fn has_room(p: Pending, a: Added, records: usize, lent: usize, pools: Lent) 
     room_in(records, lent, usable::RECORDS) & lanes
 }
 
-fn records_used(s: State) -> usize
+pub fn records_used(s: State) -> usize
     ensures { λ r. ⌜ r ≡ recordsUsed s ⌝ }
 {
     if s.waiting | !(s.parts == 0) {

@@ -37,10 +37,17 @@ pub fn value(kind: u8, bits: u64, text: &[u8]) -> std::result::Result<ColumnValu
 }
 
 /// A processor that writes the paper's 16-byte values, and stops after a named column.
-struct Values {
-    records: Vec<u8>,
+pub struct Values {
+    pub records: Vec<u8>,
     first_byte: *const u8,
     stop: u32,
+}
+
+impl Values {
+    pub fn of(feature: &FgbFeature, stop: u32) -> Values {
+        let first_byte = feature.fbs_feature().properties().expect("made with properties").bytes().as_ptr();
+        Values { records: Vec::new(), first_byte, stop }
+    }
 }
 
 impl PropertyProcessor for Values {
@@ -80,15 +87,19 @@ pub struct ValuesRead {
 
 /// Reads property bytes. All is the crate's, but for the number 14 of its panics.
 pub fn read(bytes: &[u8], columns: Option<&[u8]>, stop: u32) -> ValuesRead {
-    let feature = FgbFeature { header_buf: header_with(columns), feature_buf: feature_with(bytes) };
-    let first_byte = feature.fbs_feature().properties().expect("made with properties").bytes().as_ptr();
-    let mut values = Values { records: Vec::new(), first_byte, stop };
+    let feature = feature(bytes, columns);
+    let mut values = Values::of(&feature, stop);
     let (number, stopped, words) = match caught(|| feature.process_properties(&mut values)) {
         Ok(Ok(stopped)) => (DONE, stopped, String::new()),
         Ok(Err(error)) => (number(&error), false, format!("{error:?}")),
         Err(words) => (if words.contains("properties_reader.rs") { VALUE_CUT } else { UNKNOWN }, false, words),
     };
     ValuesRead { number, stopped, records: values.records, words }
+}
+
+/// A feature of these property bytes and columns, as the crate reads it.
+pub fn feature(bytes: &[u8], columns: Option<&[u8]>) -> FgbFeature {
+    FgbFeature { header_buf: header_with(columns), feature_buf: feature_with(bytes) }
 }
 
 fn header_with(columns: Option<&[u8]>) -> Vec<u8> {
