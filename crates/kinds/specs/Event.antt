@@ -1,9 +1,11 @@
 -- 01, "Event, 64 bytes": the kinds of event, the fields that each uses, and the events that keep the rules.
-use mathlib.Core.Bool.{Bool, false, not, _&&_, _||_}
+use mathlib.Core.Bool.{Bool, false, not, cond, _&&_, _||_}
 use Prim.Native.Nat.{ℕ, _+_, _-_, _/_, _%_, _<_}
 use lib.Dec.{leb, ltb, eqb}
 use Rattle.kinds.specs.declared.event.Event.{Event}
 use Rattle.kinds.specs.declared.event.Uses.{Uses}
+use Rattle.kinds.specs.declared.event.Bare.{Bare}
+use Rattle.kinds.specs.declared.event.Bare.the-variants.{Pair, Other}
 use Rattle.kinds.specs.declared.event.Parsed.{Parsed}
 use Rattle.kinds.specs.declared.event.Parsed.the-variants.{WellFormed, Malformed}
 
@@ -68,9 +70,39 @@ wellFormed e =
     && (bitSet (e .present) 4 || eqb (e .t) 0)
     && (bitSet (e .present) 8 || eqb (e .tm) 0)
 
--- no more than an index and a pair
+-- What that leaves of each kind. Of xy: no more than an index and a pair;
 unfoldable pub isBare : Event → Bool
 isBare e = not (e .tagged) && eqb (e .present) 0 && eqb (e .size) 0 && eqb (e .z) 0 && eqb (e .m) 0 && eqb (e .t) 0 && eqb (e .tm) 0
+
+-- of coordinate: the present values as well;
+unfoldable pub isValued : Event → Bool
+isValued e =
+    not (e .tagged)
+    && ltb (e .present) 16
+    && eqb (e .size) 0
+    && (bitSet (e .present) 1 || eqb (e .z) 0)
+    && (bitSet (e .present) 2 || eqb (e .m) 0)
+    && (bitSet (e .present) 4 || eqb (e .t) 0)
+    && (bitSet (e .present) 8 || eqb (e .tm) 0)
+
+-- of begins and ends: an index, a tag and a size.
+unfoldable pub isFrame : Event → Bool
+isFrame e =
+    usesIdx (e .kind)
+    && (usesTagged (e .kind) || not (e .tagged))
+    && eqb (e .present) 0
+    && (usesSize (e .kind) || eqb (e .size) 0)
+    && eqb (e .x) 0
+    && eqb (e .y) 0
+    && eqb (e .z) 0
+    && eqb (e .m) 0
+    && eqb (e .t) 0
+    && eqb (e .tm) 0
+
+-- bytes that are an xy event
+abbrev pub bareOf : Parsed → Bare
+bareOf (WellFormed e) = cond (isXy (e .kind)) (Pair (e .x) (e .y)) Other
+bareOf Malformed = Other
 
 -- the paper's number for each case: done, or 11
 abbrev pub parsedNumber : Parsed → ℕ

@@ -1,13 +1,15 @@
 -- Laws of events.
 use mathlib.Core.Path.{_≡_, refl}
-use mathlib.Core.Bool.{Bool, true, false, not, _&&_, _||_, Bool·beq}
+use mathlib.Core.Bool.{Bool, true, false, cond, not, _&&_, _||_, Bool·beq}
 use Prim.Native.Nat.{ℕ, _+_, _≤_, _<_}
 use lib.Dec.{ltb, eqb}
 use borrow.Author.Tests.{eqb-true, ne-eqb}
 use Rattle.laws.specs.Every.{never, both, other, every, every-at}
+use Rattle.kinds.specs.declared.event.Bare.the-variants.{Pair, Other}
 use Rattle.kinds.specs.declared.event.Event.{Event}
+use Rattle.kinds.specs.declared.event.Parsed.the-variants.{WellFormed, Malformed}
 use Rattle.kinds.specs.declared.event.Uses.{Uses}
-use Rattle.kinds.specs.Event.{usesOf, bitSet, isBare, wellFormed}
+use Rattle.kinds.specs.Event.{isBegin, isEnd, usesTagged, usesSize, usesOf, bitSet, isBare, isValued, isFrame, wellFormed, bareOf}
 
 -- ---- what a range of kinds uses, by a test that antt computes over the range
 abbrev pub same : Uses → Uses → Bool
@@ -57,3 +59,39 @@ pair-rules false size z m t tm present false h = rw h
 pub bare-formed : (e : Event) → e .kind ≡ 64 → isBare e ≡ wellFormed e
 unfolding isBare wellFormed
 bare-formed e h = rw h (pair-rules (e .tagged) (eqb (e .size) 0) (eqb (e .z) 0) (eqb (e .m) 0) (eqb (e .t) 0) (eqb (e .tm) 0) (e .present) (eqb (e .present) 0) refl)
+
+pub bare-other : (formed : Bool) (e : Event) → (e .kind ≡ 64 → ⊥) → Other ≡ bareOf (cond formed (WellFormed e) Malformed)
+bare-other true e h = rw (ne-eqb (e .kind) 64 h)
+bare-other false e h = refl
+
+pub bare-pair : (formed : Bool) (e : Event) → e .kind ≡ 64 → cond formed (Pair (e .x) (e .y)) Other ≡ bareOf (cond formed (WellFormed e) Malformed)
+bare-pair true e h = rw h
+bare-pair false e h = refl
+
+-- ---- kind 65: nothing but values stand beside it
+valued-rules : (tagged few size z m t tm : Bool) → (not tagged && few && size && z && m && t && tm) ≡ (true && (false || not tagged) && true && few && (false || size) && true && true && z && m && t && tm)
+valued-rules true few size z m t tm = refl
+valued-rules false true true z m t tm = refl
+valued-rules false true false z m t tm = refl
+valued-rules false false size z m t tm = refl
+
+pub valued-formed : (e : Event) → e .kind ≡ 65 → isValued e ≡ wellFormed e
+unfolding isValued wellFormed
+valued-formed e h =
+    rw h
+    (valued-rules (e .tagged) (ltb (e .present) 16) (eqb (e .size) 0) (bitSet (e .present) 1 || eqb (e .z) 0) (bitSet (e .present) 2 || eqb (e .m) 0) (bitSet (e .present) 4 || eqb (e .t) 0) (bitSet (e .present) 8 || eqb (e .tm) 0))
+
+-- ---- any other kind: no pair and no value
+frame-rules : (idx tagged size x y z m t tm : Bool) (present : ℕ) (none : Bool) → eqb present 0 ≡ none
+    → (idx && tagged && eqb present 0 && size && x && y && z && m && t && tm)
+    ≡ (idx && tagged && eqb present 0 && ltb present 16 && size && x && y && (bitSet present 1 || z) && (bitSet present 2 || m) && (bitSet present 4 || t) && (bitSet present 8 || tm))
+frame-rules false tagged size x y z m t tm present none h = refl
+frame-rules true false size x y z m t tm present none h = refl
+frame-rules true true size x y z m t tm present true h = rw (eqb-true present 0 h)
+frame-rules true true size x y z m t tm present false h = rw h
+
+pub frame-formed : (e : Event) → (e .kind ≡ 64 → ⊥) → (e .kind ≡ 65 → ⊥) → isFrame e ≡ wellFormed e
+unfolding isFrame wellFormed
+frame-formed e a b =
+    rw (ne-eqb (e .kind) 64 a, ne-eqb (e .kind) 65 b)
+    (frame-rules (isBegin (e .kind) || isEnd (e .kind) || false || false) (usesTagged (e .kind) || not (e .tagged)) (usesSize (e .kind) || eqb (e .size) 0) (eqb (e .x) 0) (eqb (e .y) 0) (eqb (e .z) 0) (eqb (e .m) 0) (eqb (e .t) 0) (eqb (e .tm) 0) (e .present) (eqb (e .present) 0) refl)

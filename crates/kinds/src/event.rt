@@ -4,7 +4,7 @@ ghost use mathlib.Core.Path.{_≡_};
 ghost use mathlib.Core.Bool.{_||_};
 ghost use Prim.Native.Nat.{_+_, _<_};
 ghost use lib.Dec.{eqb};
-ghost use Rattle.kinds.specs.Event.{usesOf, isBare, wellFormed, beginE, endE, xyE, coordinateE, bitSet};
+ghost use Rattle.kinds.specs.Event.{usesOf, isBare, isValued, isFrame, wellFormed, beginE, endE, xyE, coordinateE, bitSet};
 
 pub struct Event {
     pub kind: u8,
@@ -33,6 +33,12 @@ pub struct Uses {
 pub enum Parsed {
     WellFormed(Event),
     Malformed,
+}
+
+// Bytes that were read as a pair with nothing beside it, by far the commonest event, or as any other.
+pub enum Bare {
+    Pair { x: u64, y: u64 },
+    Other,
 }
 
 impl Event {
@@ -190,8 +196,8 @@ impl Event {
         }
     }
 
-    // Whether it has no more than an index and a pair: the test of kind 64, by far the commonest.
-    fn is_bare(self) -> bool
+    // Whether it has no more than an index and a pair.
+    pub fn is_bare(self) -> bool
         ensures { λ r. ⌜ r ≡ isBare self ⌝ }
     {
         !self.tagged
@@ -203,26 +209,47 @@ impl Event {
             & (self.tm == 0)
     }
 
-    // Whether its kind is one, and each field that the kind does not use, and each absent value, is zero.
-    pub fn well_formed(self) -> bool
-        ensures { λ r. ⌜ r ≡ wellFormed self ⌝ }
+    // Whether it has no more than an index, a pair and the values that are present.
+    fn is_valued(self) -> bool
+        ensures { λ r. ⌜ r ≡ isValued self ⌝ }
     {
-        if self.kind == Event::XY {
-            return self.is_bare();
-        }
-        let uses = Event::uses(self.kind);
         let present = self.present;
-        uses.idx
-            & (uses.tagged | !self.tagged)
-            & (uses.present | (present == 0))
+        !self.tagged
             & (present < 16)
-            & (uses.size | (self.size == 0))
-            & (uses.pair | (self.x == 0))
-            & (uses.pair | (self.y == 0))
+            & (self.size == 0)
             & (bit_set(present, Flags::Z) | (self.z == 0))
             & (bit_set(present, Flags::M) | (self.m == 0))
             & (bit_set(present, Flags::T) | (self.t == 0))
             & (bit_set(present, Flags::TM) | (self.tm == 0))
+    }
+
+    // Whether its kind is a begin or an end, and it has no more than an index, a tag and a size, each where the kind uses it.
+    fn is_frame(self) -> bool
+        ensures { λ r. ⌜ r ≡ isFrame self ⌝ }
+    {
+        let uses = Event::uses(self.kind);
+        uses.idx
+            & (uses.tagged | !self.tagged)
+            & (self.present == 0)
+            & (uses.size | (self.size == 0))
+            & (self.x == 0)
+            & (self.y == 0)
+            & (self.z == 0)
+            & (self.m == 0)
+            & (self.t == 0)
+            & (self.tm == 0)
+    }
+
+    // Whether its kind is one, and each field that the kind does not use, and each absent value, is zero.
+    pub fn well_formed(self) -> bool
+        ensures { λ r. ⌜ r ≡ wellFormed self ⌝ }
+    {
+        let kind = self.kind;
+        match kind {
+            Event::XY => self.is_bare(),
+            Event::COORDINATE => self.is_valued(),
+            _ => self.is_frame(),
+        }
     }
 
     pub fn begin(kind: u8, tagged: bool, size: u32, idx: u32) -> Event

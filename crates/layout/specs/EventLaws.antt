@@ -7,12 +7,14 @@ use native.Mathlib.Omega.{arith}
 use lib.ListN.{length, getD, take, drop}
 use lib.Seq.{take-all}
 use lib.Dec.{leb, eqb, lit≤}
-use borrow.Author.Tests.{eqb-true, eqb-false, leb-true}
+use borrow.Author.Tests.{eqb-true, eqb-false, eq-eqb, leb-true}
 use Rattle.laws.specs.Every.{both}
 use Rattle.laws.specs.Bytes.{le, wordAt, Bytes, unle-le, le-part, joined, four-at}
+use Rattle.kinds.specs.declared.event.Bare.the-variants.{Pair, Other}
 use Rattle.kinds.specs.declared.event.Event.{Event}
 use Rattle.kinds.specs.declared.event.Parsed.the-variants.{WellFormed, Malformed}
-use Rattle.kinds.specs.Event.{wellFormed, EventSized}
+use Rattle.kinds.specs.Event.{wellFormed, isBare, bareOf, EventSized}
+use Rattle.kinds.specs.EventLaws.{bare-formed, bare-other, bare-pair}
 use Rattle.layout.specs.Head.{headBytes}
 use Rattle.layout.specs.Event.{bit, doubleBytes, eventBytes, eventOf, spareZero, readEvent}
 
@@ -120,3 +122,13 @@ event-forth l e b h = go (eqb (length l) 64) (spareZero l) (wellFormed (eventOf 
     go true true false p q r h = let z : _≡_ {A = ℕ} 0 1 = cc in absurd (omega arith)
     go true false r p q s h = let z : _≡_ {A = ℕ} 0 1 = cc in absurd (omega arith)
     go false q r p s t h = let z : _≡_ {A = ℕ} 0 1 = cc in absurd (omega arith)
+
+-- ---- 64 bytes are an xy event, or not, by fewer tests
+module _ (l : List ℕ) (e : Event) (long : length l ≡ 64) (is : e ≡ eventOf l) where
+  pub other-read : (e .kind ≡ 64 → ⊥) → Other ≡ bareOf (readEvent l)
+  unfolding readEvent
+  other-read h = rw (eq-eqb (length l) 64 long, ← is) (bare-other (spareZero l && wellFormed e) e h)
+
+  pub bare-read : e .kind ≡ 64 → cond (spareZero l && isBare e) (Pair (e .x) (e .y)) Other ≡ bareOf (readEvent l)
+  unfolding readEvent
+  bare-read h = rw (eq-eqb (length l) 64 long, ← is, bare-formed e h) (bare-pair (spareZero l && wellFormed e) e h)

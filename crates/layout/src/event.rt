@@ -4,11 +4,13 @@ use crate::words::put_u32;
 use crate::words::put_u64;
 use crate::words::u32_at;
 use crate::words::u64_at;
+use kinds::event::Bare;
 use kinds::event::Event;
 use kinds::event::Parsed;
 ghost use mathlib.Core.Path.{_≡_};
 ghost use lib.ListN.{length};
 ghost use lib.Seq.{sets};
+ghost use Rattle.kinds.specs.Event.{bareOf};
 ghost use Rattle.layout.specs.Event.{bit, doubleBytes, eventBytes, eventOf, spareZero, readEvent};
 
 fn byte_of(on: bool) -> u8
@@ -85,5 +87,23 @@ pub fn read_event(bytes: &[u8]) -> Parsed
         Parsed::WellFormed(e)
     } else {
         Parsed::Malformed
+    }
+}
+
+// A pair with nothing beside it, which most events are, or any other: what read_event says of it, with fewer tests.
+pub fn read_bare(bytes: &[u8]) -> Bare
+    ensures { λ r. ⌜ r ≡ bareOf (readEvent (now (bytes .entry))) ⌝ }
+{
+    if bytes.len() != 64 {
+        return Bare::Other;
+    }
+    let e = event_of(bytes);
+    if e.kind != Event::XY {
+        return Bare::Other;
+    }
+    if spare_zero(bytes) & e.is_bare() {
+        Bare::Pair { x: e.x, y: e.y }
+    } else {
+        Bare::Other
     }
 }

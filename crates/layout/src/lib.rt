@@ -5,6 +5,7 @@ mod value;
 mod words;
 
 pub use event::put_event;
+pub use event::read_bare;
 pub use event::read_event;
 pub use geometry::put_geometry;
 pub use geometry::read_geometry;

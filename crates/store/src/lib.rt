@@ -3,6 +3,7 @@ mod log;
 mod records;
 
 pub use log::hear;
+pub use log::hear_bare;
 pub use log::say;
 pub use records::put_record;
 pub use records::record_at;

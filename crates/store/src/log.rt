@@ -1,11 +1,13 @@
 // The log: event records one after the other.
 use kinds::answer::Answer;
+use kinds::event::Bare;
 use kinds::event::Event;
 use kinds::event::Parsed;
 use kinds::refusal;
 use kinds::usable;
 ghost use mathlib.Core.Path.{_≡_};
 ghost use Rattle.laws.specs.Script.{one, out, roomAt, run};
+ghost use Rattle.kinds.specs.Event.{bareOf};
 ghost use Rattle.store.specs.Log.{events, heard};
 
 // The event that bytes are, or malformed.
@@ -13,6 +15,13 @@ pub fn hear(bytes: &[u8]) -> Parsed
     ensures { λ r. ⌜ r ≡ heard (now (bytes .entry)) ⌝ }
 {
     layout::read_event(bytes)
+}
+
+// The pair that bytes are if they are an xy event.
+pub fn hear_bare(bytes: &[u8]) -> Bare
+    ensures { λ r. ⌜ r ≡ bareOf (heard (now (bytes .entry))) ⌝ }
+{
+    layout::read_bare(bytes)
 }
 
 fn has_room(log: &[u8], count: usize) -> bool
