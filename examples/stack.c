@@ -24,6 +24,7 @@ static uint8_t buffer[256], records[128 * 64];
 static const uint8_t text[] = {'S', 0xc3, 0xb8, 'r', 'e', 'n'};
 static const uint8_t columns[] = {BINTOLAGE_COLUMN_STRING};
 static uint32_t count;
+static size_t taken;
 static uint8_t stopped;
 static uint64_t edges[4];
 
@@ -31,6 +32,7 @@ static uint64_t edges[4];
 
 static void start(void) { bintolage_start(BINTOLAGE_POLYGON, 1, 1, state); }
 static void take(void) { bintolage_event(state, event, sizeof event, table, sizeof table, POOLS); }
+static void take_many(void) { bintolage_events(state, event, sizeof event, table, sizeof table, POOLS, &taken); }
 static void property(void) { bintolage_property(state, 0, BINTOLAGE_COLUMN_STRING, 0, text, sizeof text, buffer, sizeof buffer); }
 static void finish(void) { bintolage_finish(state, table, sizeof table, POOLS); }
 static void next(void) { bintolage_next(state, table, sizeof table, POOLS); }
@@ -118,7 +120,7 @@ static long deepest_read(int *deepest)
 }
 
 /* Every kind of event, taken in a collection, so that an end finishes a part. */
-static long deepest_event(void)
+static long deepest_event(void (*made)(void))
 {
     long most = 0;
     for (int kind = 0; kind < 256; kind++) {
@@ -127,7 +129,7 @@ static long deepest_event(void)
         event[0] = BINTOLAGE_GEOMETRY_COLLECTION;
         take();
         event[0] = (uint8_t)kind;
-        long d = depth(take);
+        long d = depth(made);
         most = d > most ? d : most;
     }
     return most;
@@ -138,7 +140,8 @@ int main(void)
     int type = 0;
     printf("%-26s bytes\n", "call");
     printf("%-26s %5ld\n", "start", depth(start));
-    printf("%-26s %5ld\n", "event, of any kind", deepest_event());
+    printf("%-26s %5ld\n", "event, of any kind", deepest_event(take));
+    printf("%-26s %5ld\n", "events, of any kind", deepest_event(take_many));
     start();
     printf("%-26s %5ld\n", "property", depth(property));
     printf("%-26s %5ld\n", "read_properties", depth(read_properties));

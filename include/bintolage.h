@@ -27,7 +27,8 @@
  * A FEATURE, FROM BEGINNING TO END
  *
  *     bintolage_start      once
- *     bintolage_event      for each event                           \  in any order,
+ *     bintolage_events     for a row of events, or                  \
+ *     bintolage_event      for each event                            |  in any order,
  *     bintolage_property   for each property                        /  for each feature
  *     bintolage_finish     the tree now stands in table and pools
  *     bintolage_read, bintolage_box, bintolage_read_properties: read it, copy it, store it
@@ -52,7 +53,8 @@ extern "C" {
  * ANSWERS
  *
  * Every call but bintolage_start answers 0 for done, or why it was refused. A refused write changes nothing: neither a
- * word of the state nor a lent byte. A refused read leaves in the log exactly the records before the refused place.
+ * word of the state nor a lent byte (of bintolage_events this is the event that was refused; those before it are taken).
+ * A refused read leaves in the log exactly the records before the refused place.
  */
 #define BINTOLAGE_DONE             0
 #define BINTOLAGE_XY_ABSENT        1  /* read: a list of coordinates is absent where one is needed */
@@ -225,6 +227,24 @@ uint8_t bintolage_event(
     uint64_t *m, size_t m_words,
     uint64_t *t, size_t t_words,
     uint64_t *tm, size_t tm_words);
+
+/*
+ * Takes event records one after the other, as bintolage_event takes each, until one is refused: *taken is how many were
+ * taken, and the answer says why the next was not, or 0 where all were. Those that were taken stay; the refused one changes
+ * nothing. Bytes at the end that are no whole record are refused with 11. Many events in one call take a fraction of the
+ * time of a call for each.
+ */
+uint8_t bintolage_events(
+    uint32_t state[16],
+    const uint8_t *events, size_t events_bytes,
+    uint8_t *table, size_t table_bytes,
+    uint64_t *xy, size_t xy_words,
+    uint32_t *ends, size_t ends_words,
+    uint64_t *z, size_t z_words,
+    uint64_t *m, size_t m_words,
+    uint64_t *t, size_t t_words,
+    uint64_t *tm, size_t tm_words,
+    size_t *taken);
 
 /*
  * Lays one property down in `buffer`, after those before it: the column's index in two bytes, then the value. A number is

@@ -1,6 +1,5 @@
 //! The crate's own Rust beside the proved library: the same inputs, one process, the two in turn.
 mod inputs;
-mod library;
 mod port;
 mod rows;
 mod timing;
@@ -42,6 +41,7 @@ fn main() {
     ];
     for (name, feature) in &features {
         row(&format!("write {name}"), rows::write(rounds, feature));
+        row("      a call for each event", rows::write_each(rounds, feature));
         row(&format!("read  {name}"), rows::read(rounds, feature));
     }
     let carried = MOST_PAIRS - 4;

@@ -1,5 +1,5 @@
 //! The proved library's writer with all the memory that it can use, and its readings.
-use crate::library;
+use bintolage::link;
 use original::tree::{Store, MOST_RECORDS, MOST_WORDS};
 
 const PROPERTY_BYTES: usize = 65536;
@@ -20,7 +20,7 @@ macro_rules! lent {
         let [z, m, t, tm] = &mut $port.values;
         // SAFETY: every vector is lent with its own length.
         unsafe {
-            library::$call(
+            link::$call(
                 $($first,)*
                 $port.table.$pointer(), $port.table.len(), $port.xy.$pointer(), $port.xy.len(), $port.ends.$pointer(), $port.ends.len(),
                 z.$pointer(), z.len(), m.$pointer(), m.len(), t.$pointer(), t.len(), tm.$pointer(), tm.len() $(, $last)*
@@ -33,7 +33,7 @@ impl Port {
     pub fn new(declared: u8) -> Port {
         let mut state = [0; 16];
         // SAFETY: the state is sixteen words.
-        unsafe { library::bintolage_start(declared, 0, 0, state.as_mut_ptr()) };
+        unsafe { link::bintolage_start(declared, 0, 0, state.as_mut_ptr()) };
         Port {
             state,
             table: vec![0; 64 * MOST_RECORDS],
@@ -49,11 +49,18 @@ impl Port {
         lent!(bintolage_event(self.state.as_mut_ptr(), event, length) self as_mut_ptr ())
     }
 
+    /// All of them in one call.
+    pub fn events(&mut self, events: &[u8]) -> u8 {
+        let (events, length) = (events.as_ptr(), events.len());
+        let mut taken = 0;
+        lent!(bintolage_events(self.state.as_mut_ptr(), events, length) self as_mut_ptr (&mut taken))
+    }
+
     pub fn property(&mut self, column: u32, kind: u8, bits: u64, text: &[u8]) -> u8 {
         let (buffer, length) = (self.properties.as_mut_ptr(), self.properties.len());
         let state = self.state.as_mut_ptr();
         // SAFETY: every slice is given with its length.
-        unsafe { library::bintolage_property(state, column, kind, bits, text.as_ptr(), text.len(), buffer, length) }
+        unsafe { link::bintolage_property(state, column, kind, bits, text.as_ptr(), text.len(), buffer, length) }
     }
 
     pub fn finish(&mut self) -> u8 {
@@ -96,7 +103,7 @@ pub fn read_properties(bytes: &[u8], columns: &[u8], log: &mut [u8]) -> usize {
         let (columns, columns_length) = (columns.as_ptr(), columns.len());
         let (log, log_length) = (log.as_mut_ptr(), log.len());
         let (count, stopped) = (&mut count, &mut stopped);
-        library::bintolage_read_properties(
+        link::bintolage_read_properties(
             bytes.as_ptr(),
             bytes.len(),
             1,

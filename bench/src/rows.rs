@@ -25,6 +25,10 @@ fn give_all(writer: &mut FeatureWriter, events: &[u8]) {
 }
 
 fn take_all(port: &mut Port, events: &[u8]) {
+    assert_eq!(port.events(events), 0, "the events are accepted");
+}
+
+fn take_each(port: &mut Port, events: &[u8]) {
     for event in events.chunks_exact(EVENT) {
         assert_eq!(port.event(event), 0, "the event is accepted");
     }
@@ -46,8 +50,17 @@ fn written(feature: &Feature) -> (Vec<u8>, Port) {
     (bytes, port)
 }
 
-/// Events to a finished feature, and the writer ready for the next.
+/// Events to a finished feature, and the writer ready for the next: all in one call.
 pub fn write(rounds: Rounds, feature: &Feature) -> Times {
+    write_by(rounds, feature, take_all)
+}
+
+/// The same, with a call for each event.
+pub fn write_each(rounds: Rounds, feature: &Feature) -> Times {
+    write_by(rounds, feature, take_each)
+}
+
+fn write_by(rounds: Rounds, feature: &Feature, take: fn(&mut Port, &[u8])) -> Times {
     written(feature);
     let mut writer = rust_writer(feature.declared);
     let mut port = Port::new(feature.declared);
@@ -59,7 +72,7 @@ pub fn write(rounds: Rounds, feature: &Feature) -> Times {
     };
     let port = || {
         timed(|| {
-            take_all(&mut port, &feature.events);
+            take(&mut port, &feature.events);
             finish_and_next(&mut port);
         })
     };

@@ -1,4 +1,5 @@
-//! The library's calls as C sees them: a list is a pointer and a count.
+//! The library's calls as C sees them: a list is a pointer and a count of elements. `include/bintolage.h` says what each asks
+//! of its caller.
 extern "C" {
     pub fn bintolage_start(declared: u8, detect: u8, promote: u8, state: *mut u32);
 
@@ -12,6 +13,19 @@ extern "C" {
         m: *mut u64, m_words: usize,
         t: *mut u64, t_words: usize,
         tm: *mut u64, tm_words: usize,
+    ) -> u8;
+
+    pub fn bintolage_events(
+        state: *mut u32,
+        events: *const u8, events_bytes: usize,
+        table: *mut u8, table_bytes: usize,
+        xy: *mut u64, xy_words: usize,
+        ends: *mut u32, ends_words: usize,
+        z: *mut u64, z_words: usize,
+        m: *mut u64, m_words: usize,
+        t: *mut u64, t_words: usize,
+        tm: *mut u64, tm_words: usize,
+        taken: *mut usize,
     ) -> u8;
 
     pub fn bintolage_property(

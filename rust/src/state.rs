@@ -9,6 +9,13 @@ pub struct State {
     words: [u32; 16],
 }
 
+/// How many events were taken, and why the one after them was not. All were if nothing was refused.
+#[derive(Clone, Copy, Debug, PartialEq, Eq)]
+pub struct Taken {
+    pub answer: Result<(), Refusal>,
+    pub count: usize,
+}
+
 impl State {
     /// A fresh writer's. `declared` is the type of the features to come, 0 where it is not known.
     pub fn start(declared: u8, detect: bool, promote: bool) -> State {
@@ -52,6 +59,28 @@ impl State {
                 memory.tm.as_mut_ptr(), memory.tm.len(),
             )
         })
+    }
+
+    /// Takes event records of 64 bytes one after the other, until one is refused: as many calls of [`State::event`], but
+    /// faster.
+    pub fn events(&mut self, events: &[u8], memory: &mut Memory) -> Taken {
+        let mut count = 0;
+        // SAFETY: every pointer and count is a slice's, and what is written is borrowed by `&mut`.
+        let answer = Refusal::of(unsafe {
+            link::bintolage_events(
+                self.words.as_mut_ptr(),
+                events.as_ptr(), events.len(),
+                memory.table.as_mut_ptr(), memory.table.len(),
+                memory.xy.as_mut_ptr(), memory.xy.len(),
+                memory.ends.as_mut_ptr(), memory.ends.len(),
+                memory.z.as_mut_ptr(), memory.z.len(),
+                memory.m.as_mut_ptr(), memory.m.len(),
+                memory.t.as_mut_ptr(), memory.t.len(),
+                memory.tm.as_mut_ptr(), memory.tm.len(),
+                &mut count,
+            )
+        });
+        Taken { answer, count }
     }
 
     /// Lays a property down in a buffer, after those before it: a number by its bits, a type from 11 to 14 by its text.

@@ -1,4 +1,4 @@
-use crate::{Event, Memory, Refusal, State, Tree, Value};
+use crate::{Event, Memory, Refusal, State, Taken, Tree, Value};
 
 /// A writer of features over memory that is lent to it. Its memory is its own while it lives, so what the state uses is kept.
 pub struct Writer<'a> {
@@ -27,6 +27,11 @@ impl<'a> Writer<'a> {
 
     pub fn event(&mut self, event: &Event) -> Result<(), Refusal> {
         self.state.event(&event.to_bytes(), &mut self.memory)
+    }
+
+    /// Takes event records of 64 bytes, until one is refused.
+    pub fn events(&mut self, records: &[u8]) -> Taken {
+        self.state.events(records, &mut self.memory)
     }
 
     pub fn property(&mut self, column: u32, value: Value) -> Result<(), Refusal> {

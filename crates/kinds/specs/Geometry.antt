@@ -33,3 +33,7 @@ pub record GeometrySized (g : Geometry) : Type 0 where
 abbrev pub judgedNumber : Judged → ℕ
 judgedNumber (Good g) = 0
 judgedNumber Bad = 10
+
+-- a record that has an xy list and no other
+abbrev pub loneGeometry : ℕ → ℕ → ℕ → Geometry
+loneGeometry kind start count = record { kind = kind; xy = Stretch start count; ends = Absent; z = Absent; m = Absent; t = Absent; tm = Absent; parts = Absent }

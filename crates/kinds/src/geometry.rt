@@ -33,3 +33,9 @@ pub struct Lent {
     pub t: usize,
     pub tm: usize,
 }
+
+// A record that has an xy list and no other, or any other record.
+pub enum Lone {
+    List { start: u32, count: u32 },
+    Other,
+}

@@ -3,4 +3,5 @@ pub mod Event
 pub mod EventLaws
 pub mod Geometry
 pub mod GeometryLaws
+pub mod Lone
 pub mod Value

@@ -2,9 +2,11 @@
 use crate::words::put_head;
 use crate::words::put_u32;
 use crate::words::u32_at;
+use crate::words::u64_at;
 use kinds::event::bit_set;
 use kinds::geometry::Geometry;
 use kinds::geometry::Judged;
+use kinds::geometry::Lone;
 use kinds::geometry::Span;
 ghost use mathlib.Core.Path.{_≡_};
 ghost use Prim.Native.Nat.{_+_, _≤_, _<_};
@@ -12,6 +14,7 @@ ghost use lib.ListN.{length};
 ghost use lib.Seq.{sets};
 ghost use Rattle.kinds.specs.Geometry.{startOf, countOf};
 ghost use Rattle.layout.specs.Geometry.{presentOf, shown, spanBytes, geometryBytes, spanAt, absentZero, soundGeometry, geometryOf, readGeometry};
+ghost use Rattle.layout.specs.Lone.{isLone, loneIn};
 
 fn start_of(s: Span) -> u32
     ensures { λ r. ⌜ r ≡ startOf s ⌝ }
@@ -160,5 +163,35 @@ pub fn read_geometry(bytes: &[u8]) -> Judged
         Judged::Good(geometry_of(bytes))
     } else {
         Judged::Bad
+    }
+}
+
+fn is_lone(bytes: &[u8]) -> bool
+    requires { ⌜ length (now bytes) ≡ 64 ⌝ }
+    ensures { λ r. ⌜ r ≡ isLone (now (bytes .entry)) ⌝ }
+{
+    (bytes[1] == 1)
+        & (bytes[2] == 0)
+        & (bytes[3] == 0)
+        & (u64_at(bytes, 12) == 0)
+        & (u64_at(bytes, 20) == 0)
+        & (u64_at(bytes, 28) == 0)
+        & (u64_at(bytes, 36) == 0)
+        & (u64_at(bytes, 44) == 0)
+        & (u64_at(bytes, 52) == 0)
+        & (u32_at(bytes, 60) == 0)
+}
+
+// The list of a record that has an xy list and no other: what read_geometry says of most parts, in a dozen loads.
+pub fn lone_list(bytes: &[u8]) -> Lone
+    requires { ⌜ length (now bytes) ≡ 64 ⌝ }
+    ensures { λ r. ⌜ r ≡ loneIn (now (bytes .entry)) ⌝ }
+{
+    if is_lone(bytes) {
+        let start = u32_at(bytes, 4);
+        let count = u32_at(bytes, 8);
+        Lone::List { start, count }
+    } else {
+        Lone::Other
     }
 }

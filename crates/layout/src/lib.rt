@@ -7,6 +7,7 @@ mod words;
 pub use event::put_event;
 pub use event::read_bare;
 pub use event::read_event;
+pub use geometry::lone_list;
 pub use geometry::put_geometry;
 pub use geometry::read_geometry;
 pub use value::put_value;

@@ -31,7 +31,7 @@ module _ (many : Bool) (L : Lanes) (l : List ℕ) (i idx last : ℕ) where
       let p : length l ≤ i + 1 = omega arith in
       rw (drop-one l i h, drop-of-length-le l p)
 
-  coords-two : 2 ≤ length l - i → coordsS many L (drop i l) idx last ≡ pairS many L (getD l i 0) (getD l (i + 1) 0) idx (coordsS many (tails L) (drop (i + 2) l) (idx + 1) last)
+  pub coords-two : 2 ≤ length l - i → coordsS many L (drop i l) idx last ≡ pairS many L (getD l i 0) (getD l (i + 1) 0) idx (coordsS many (tails L) (drop (i + 2) l) (idx + 1) last)
   unfolding coordsS
   coords-two k =
       let h : i < length l = omega arith in

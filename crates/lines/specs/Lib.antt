@@ -6,3 +6,4 @@ pub mod CoordLaws
 pub mod LineLaws
 pub mod Own
 pub mod OwnLaws
+pub mod Lone

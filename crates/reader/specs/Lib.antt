@@ -1,4 +1,5 @@
 pub mod Reading
 pub mod Walks
 pub mod WalkLaws
+pub mod Lone
 pub mod Examples

@@ -11,6 +11,7 @@ use kinds::flags::Flags;
 use kinds::geometry::Geometry;
 use kinds::geometry::Judged;
 use kinds::geometry::Lent;
+use kinds::geometry::Lone;
 use kinds::geometry::Span;
 use kinds::geometry_type;
 use kinds::refusal;
@@ -24,6 +25,7 @@ ghost use Rattle.laws.specs.Cut.{Said};
 ghost use Rattle.store.specs.Lists.{poolsOf, lentOf, partsOf, listsOf, recordWith};
 ghost use Rattle.store.specs.Log.{events};
 ghost use Rattle.lines.specs.Own.{InPools};
+ghost use Rattle.reader.specs.Lone.{LonePart};
 ghost use Rattle.reader.specs.Reading.{spanS, readS};
 ghost use Rattle.reader.specs.Walks.{Typed, partS, walkS};
 
@@ -37,6 +39,23 @@ fn lent_of(xy: &[u64], ends: &[u32], z: &[u64], m: &[u64], t: &[u64], tm: &[u64]
         m: m.len(),
         t: t.len(),
         tm: tm.len(),
+    }
+}
+
+// The list of part n, where it is read as a polygon of pairs with nothing beside them and its record has no other list.
+fn lone_part(table: &[u8], lent: usize, flags: Flags, role: Role, n: usize) -> Lone
+    ensures { λ r. ⌜ LonePart flags role (now (table .entry)) lent n r ⌝ }
+{
+    match role {
+        Role::Polygon => {
+            if flags.multi() {
+                Lone::Other
+            } else {
+                store::lone_list_at(table, lent, n)
+            }
+        }
+        Role::Geometry => Lone::Other,
+        Role::Curve { above: _ } => Lone::Other,
     }
 }
 
@@ -170,6 +189,14 @@ fn read_part(
             number: refusal::TOO_DEEP,
             count,
         };
+    }
+    if let Lone::List {
+        start,
+        count: words,
+    } = lone_part(table, xy.len(), flags, role, n) {
+        let from = start as usize;
+        let end = from + words as usize;
+        return lines::read_lone_ring(log, count, &xy[from..end], idx);
     }
     let lent = lent_of(xy, ends, z, m, t, tm);
     match store::record_at(table, lent, n) {

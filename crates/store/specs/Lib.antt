@@ -1,4 +1,6 @@
 pub mod Records
 pub mod RecordLaws
+pub mod Lone
 pub mod Lists
 pub mod Log
+pub mod LogLaws

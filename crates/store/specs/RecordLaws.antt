@@ -47,7 +47,7 @@ abbrev pub InTable : Span → ℕ → ℕ → Type 0
 InTable Absent n lent = Unit
 InTable (Stretch start count) n lent = (n < start) × (start + count ≤ lent) × (start + count ≤ 4096)
 
-pool-bounds : (s : Span) (lent most : ℕ) → inPool s lent most ≡ true → InPool s lent most
+pub pool-bounds : (s : Span) (lent most : ℕ) → inPool s lent most ≡ true → InPool s lent most
 pool-bounds Absent lent most h = tt
 pool-bounds (Stretch start count) lent most h =
     let t = both (leb (start + count) lent) (leb (start + count) most) h in

@@ -5,6 +5,7 @@ mod records;
 pub use log::hear;
 pub use log::hear_bare;
 pub use log::say;
+pub use records::lone_list_at;
 pub use records::put_record;
 pub use records::record_at;
 pub use records::records_lent;

@@ -2,10 +2,12 @@
 use kinds::geometry::Geometry;
 use kinds::geometry::Judged;
 use kinds::geometry::Lent;
+use kinds::geometry::Lone;
 use kinds::geometry::Span;
 use kinds::usable;
 ghost use mathlib.Core.Path.{_≡_};
 ghost use Prim.Native.Nat.{_+_, _≤_, _<_};
+ghost use Rattle.store.specs.Lone.{LoneAt, inXyPool};
 ghost use Rattle.store.specs.Records.{recordsLent, hasRecord, inPool, inTable, listsIn, judged, recordAt, putRecord};
 
 // How many whole records a table has.
@@ -91,6 +93,36 @@ pub fn record_at(table: &[u8], pools: Lent, n: usize) -> Judged
     let end = from + 64;
     let read = layout::read_geometry(&table[from..end]);
     judge(read, pools, n, table.len() / 64)
+}
+
+fn in_xy_pool(read: Lone, lent: usize) -> Lone
+    ensures { λ r. ⌜ r ≡ inXyPool read lent ⌝ }
+{
+    match read {
+        Lone::Other => Lone::Other,
+        Lone::List { start, count } => {
+            let xy = Span::Stretch { start, count };
+            if in_pool(xy, lent, usable::XY_WORDS) {
+                read
+            } else {
+                Lone::Other
+            }
+        }
+    }
+}
+
+// The list of the record with a number, where it is an xy list in a pool of which so much is lent, and the record has no
+// other: a quick way to what record_at says of it.
+pub fn lone_list_at(table: &[u8], lent: usize, n: usize) -> Lone
+    ensures { λ r. ⌜ LoneAt (now (table .entry)) lent n r ⌝ }
+{
+    if !has_record(table, n) {
+        return Lone::Other;
+    }
+    let from = 64 * n;
+    let end = from + 64;
+    let read = layout::lone_list(&table[from..end]);
+    in_xy_pool(read, lent)
 }
 
 // Puts a record down in a table that has its number.

@@ -8,11 +8,13 @@ use lib.ListN.{length-take}
 use mir.Val.{boolByte}
 use Rattle.laws.specs.Script.{Script, Format}
 use Rattle.laws.specs.Cut.{Said, recordsOf, roomOf}
+use Rattle.writer.specs.declared.many.Took.{Took}
 use Rattle.writer.specs.declared.state.State.{State}
 use Rattle.writer.specs.declared.state.Wrote.{Wrote}
 use Rattle.writer.specs.State.{Mem, Outcome, outcome}
-use Rattle.terminal.specs.Words.{stateOf, wordsAfter}
-use Rattle.terminal.specs.Calls.{one, kept, keptOf}
+use Rattle.writer.specs.Events.{Progress, progress}
+use Rattle.terminal.specs.Words.{stateOf, wordsAfter, wordsAfterAll}
+use Rattle.terminal.specs.Calls.{one, kept, keptOf, taken, takenOf}
 
 -- a writing call on the state of the words, whose answer is kept in them
 pub kept-call : (call : State → Outcome) (words : List ℕ) {s : State} {r : Wrote} {number : ℕ} {after : List ℕ} (mem : Mem)
@@ -20,6 +22,12 @@ pub kept-call : (call : State → Outcome) (words : List ℕ) {s : State} {r : W
     → kept number after mem ≡ keptOf words (call (stateOf words))
 unfolding keptOf
 kept-call call words mem same called number-is words-are = rw (number-is, words-are) (ap (keptOf words) called ∙ ap (λ (s : State). keptOf words (call s)) same)
+
+pub taken-call : (call : State → Progress) (words : List ℕ) {s : State} {r : Took} {number : ℕ} {after : List ℕ} (mem : Mem)
+    → s ≡ stateOf words → progress r mem ≡ call s → number ≡ r .number → after ≡ wordsAfterAll words r
+    → taken number (r .taken) after mem ≡ takenOf words (call (stateOf words))
+unfolding takenOf
+taken-call call words mem same called number-is words-are = rw (number-is, words-are) (ap (takenOf words) called ∙ ap (λ (s : State). takenOf words (call s)) same)
 
 -- a count of log records fits 32 bits
 pub count-most : {A : Type 0} (F : Format A) (s : Script A) (L : List ℕ) {number count : ℕ} {M : List ℕ} → Said F s L number count M → count ≤ 1048576

@@ -8,7 +8,8 @@ use Rattle.kinds.specs.declared.flags.Flags.{Flags}
 use Rattle.bbox.specs.declared.Box.{Box}
 use Rattle.bbox.specs.Box.{bitsOf}
 use Rattle.writer.specs.State.{Mem, Outcome}
-use Rattle.terminal.specs.Words.{wordsAfter}
+use Rattle.writer.specs.Events.{Progress}
+use Rattle.terminal.specs.Words.{wordsAfter, wordsAfterAll}
 
 -- 0 is no, all else yes
 abbrev pub yes : ℕ → Bool
@@ -29,6 +30,19 @@ kept number words mem = record { number = number; words = words; mem = mem }
 
 unfoldable pub keptOf : List ℕ → Outcome → Kept
 keptOf words o = kept (o .wrote .number) (wordsAfter words (o .wrote)) (o .mem)
+
+-- what taking events comes to: how many were taken, too
+pub record Taken : Type 0 where
+  pub number : ℕ
+  pub taken : ℕ
+  pub words : List ℕ
+  pub mem : Mem
+
+abbrev pub taken : ℕ → ℕ → List ℕ → Mem → Taken
+taken number count words mem = record { number = number; taken = count; words = words; mem = mem }
+
+unfoldable pub takenOf : List ℕ → Progress → Taken
+takenOf words p = taken (p .took .number) (p .took .taken) (wordsAfterAll words (p .took)) (p .mem)
 
 -- z 1, m 2, t 4, tm 8, as an event's present bits; higher bits are not looked at
 unfoldable pub flagsOf : ℕ → Flags

@@ -6,10 +6,11 @@ use Prim.Native.Nat.{ℕ, _+_, _*_, _≤_, _<_}
 use native.Mathlib.Omega.{arith}
 use borrow.Author.Tests.{eq-eqb, ne-eqb}
 use Rattle.kinds.specs.Event.{bitSet}
+use Rattle.writer.specs.declared.many.Took.{Took}
 use Rattle.writer.specs.declared.state.Typing.{Typing}
 use Rattle.writer.specs.declared.state.State.{State}
 use Rattle.writer.specs.declared.state.Wrote.{Wrote}
-use Rattle.terminal.specs.Words.{byteOf, typingOf, pendingOf, stateOf, mark, headOf, wordsOf, wordsAfter}
+use Rattle.terminal.specs.Words.{byteOf, typingOf, pendingOf, stateOf, mark, headOf, wordsOf, wordsAfter, wordsAfterAll}
 
 pub mark-most : {r : ℕ} (on : Bool) (bit : ℕ) → r ≡ mark on bit → r ≤ bit
 mark-most true bit h = omega arith
@@ -87,3 +88,13 @@ module _ (words : List ℕ) (r : Wrote) where
 
   pub refused-state : (r .number ≡ 0 → ⊥) → stateOf (wordsAfter words r) ≡ stateOf words
   refused-state h = ap stateOf (sym (refused-words h))
+
+-- ---- events: the words change where one was taken
+module _ (words : List ℕ) (r : Took) where
+  pub taken-words : {after : List ℕ} → (r .taken ≡ 0 → ⊥) → after ≡ wordsOf (r .state) → after ≡ wordsAfterAll words r
+  unfolding wordsAfterAll
+  taken-words h e = rw (ne-eqb (r .taken) 0 h) e
+
+  pub untaken-words : r .taken ≡ 0 → words ≡ wordsAfterAll words r
+  unfolding wordsAfterAll
+  untaken-words h = rw (eq-eqb (r .taken) 0 h)

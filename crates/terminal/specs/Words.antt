@@ -9,6 +9,7 @@ use Rattle.writer.specs.declared.state.Typing.{Typing}
 use Rattle.writer.specs.declared.state.Words.{Words}
 use Rattle.writer.specs.declared.state.Pending.{Pending}
 use Rattle.writer.specs.declared.state.State.{State}
+use Rattle.writer.specs.declared.many.Took.{Took}
 use Rattle.writer.specs.declared.state.Wrote.{Wrote}
 
 -- ---- a state from any sixteen words: spare bits are not looked at
@@ -53,3 +54,7 @@ wordsOf s =
 -- the words after a call: a refusal leaves them as they were
 unfoldable pub wordsAfter : List ℕ → Wrote → List ℕ
 wordsAfter words r = cond (eqb (r .number) 0) (wordsOf (r .state)) words
+
+-- after events: as the last that was taken leaves them
+unfoldable pub wordsAfterAll : List ℕ → Took → List ℕ
+wordsAfterAll words r = cond (eqb (r .taken) 0) words (wordsOf (r .state))

@@ -5,6 +5,7 @@ mod state_words;
 use plain::edges_of;
 use plain::flags_of;
 use state_words::keep;
+use state_words::keep_all;
 use state_words::state_of;
 use state_words::words_of;
 ghost use mathlib.Core.Path.{_≡_};
@@ -18,9 +19,10 @@ ghost use Rattle.reader.specs.Reading.{readS};
 ghost use Rattle.bbox.specs.Geometry.{boxedOf};
 ghost use Rattle.writer.specs.State.{memOf};
 ghost use Rattle.writer.specs.Calls.{started, eventCall, finishCall, nextCall};
+ghost use Rattle.writer.specs.Events.{eventsCall};
 ghost use Rattle.writer.specs.Property.{propertyCall};
 ghost use Rattle.terminal.specs.Words.{stateOf, wordsOf, wordsAfter};
-ghost use Rattle.terminal.specs.Calls.{yes, one, kept, keptOf, flagsOf, edgesOf};
+ghost use Rattle.terminal.specs.Calls.{yes, one, kept, keptOf, taken, takenOf, flagsOf, edgesOf};
 
 // A writer's first state. 0 is no, all else yes.
 #[no_mangle]
@@ -49,6 +51,28 @@ pub extern "C" fn bintolage_event(
     let before = *state;
     let taken = writer::event(state_of(before), event, table, xy, ends, z, m, t, tm);
     keep(state, taken)
+}
+
+// Takes events' records one after the other, until one is refused, and says how many. Refused: 11, 15, 5, 12.
+#[no_mangle]
+pub extern "C" fn bintolage_events(
+    state: &mut [u32; 16],
+    records: &[u8],
+    table: &mut [u8],
+    xy: &mut [u64],
+    ends: &mut [u32],
+    z: &mut [u64],
+    m: &mut [u64],
+    t: &mut [u64],
+    tm: &mut [u64],
+    count: &mut usize,
+) -> u8
+    ensures { λ r. ⌜ taken r (now (count .exit)) (now (state .exit)) (memOf (now (table .exit)) (now (xy .exit)) (now (ends .exit)) (now (z .exit)) (now (m .exit)) (now (t .exit)) (now (tm .exit))) ≡ takenOf (now (state .entry)) (eventsCall (stateOf (now (state .entry))) (memOf (now (table .entry)) (now (xy .entry)) (now (ends .entry)) (now (z .entry)) (now (m .entry)) (now (t .entry)) (now (tm .entry))) (now (records .entry))) ⌝ }
+{
+    let before = *state;
+    let took = writer::events(state_of(before), records, table, xy, ends, z, m, t, tm);
+    *count = took.taken;
+    keep_all(state, took)
 }
 
 // Lays a value down after the feature's other property bytes. Refused: 15, 16, 11, 6, 12.

@@ -3,12 +3,13 @@ use kinds::event::bit_set;
 use kinds::refusal;
 use writer::Pending;
 use writer::State;
+use writer::Took;
 use writer::Typing;
 use writer::Words;
 use writer::Wrote;
 ghost use mathlib.Core.Path.{_≡_};
 ghost use Prim.Native.Nat.{_<_};
-ghost use Rattle.terminal.specs.Words.{byteOf, typingOf, pendingOf, stateOf, mark, headOf, wordsOf, wordsAfter};
+ghost use Rattle.terminal.specs.Words.{byteOf, typingOf, pendingOf, stateOf, mark, headOf, wordsOf, wordsAfter, wordsAfterAll};
 
 // What each byte of the first word counts for there; the highest holds the marks.
 const CURRENT: u32 = 256;
@@ -140,4 +141,16 @@ pub fn keep(words: &mut [u32; 16], wrote: Wrote) -> u8
         *words = after;
     }
     wrote.number
+}
+
+// Keeps the state after the events that were taken, and gives the number. Where none was, the words stay as they were.
+pub fn keep_all(words: &mut [u32; 16], took: Took) -> u8
+    ensures { λ r. ⌜ r ≡ took .number ⌝ }
+    ensures { λ _. ⌜ now (words .exit) ≡ wordsAfterAll (now (words .entry)) took ⌝ }
+{
+    if took.taken != 0 {
+        let after = words_of(took.state);
+        *words = after;
+    }
+    took.number
 }

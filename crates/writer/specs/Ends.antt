@@ -19,11 +19,15 @@ use Rattle.writer.specs.declared.state.Wrote.{Wrote}
 use Rattle.writer.specs.declared.set_type.Typed.{Typed}
 use Rattle.writer.specs.declared.set_type.Typed.the-variants.{Set, Mixed}
 use Rattle.writer.specs.declared.ask.Ask.{Ask}
-use Rattle.writer.specs.State.{Mem, memory, memOf, outcome, settled, wrote}
+use Rattle.writer.specs.State.{Mem, memory, memOf, Outcome, outcome, settled, wrote}
 use Rattle.writer.specs.Calls.{noWords, hasRoom, askOf, recordsFor, stateAfter, decideTyped, decideEvent, tableAfter, poolAfter, memAfter, eventWith, eventOf, eventCall, rootOf, decideFinish, finishCall, poolMoved, decideNext, nextCall}
 use Rattle.writer.specs.Room.{Room, event-accepted, finish-accepted, next-accepted}
 
--- ---- an event in its turn: types mixed, done, no room
+-- ---- an event out of its turn; in its turn: types mixed, done, no room
+pub event-waits : (s : State) (a : Ask) (lent : ℕ) (pools : Lent) → s .waiting ≡ true → wrote 15 s ≡ decideEvent s a lent pools
+unfolding decideEvent
+event-waits s a lent pools waits = if-so _ waits refl
+
 module _ (s : State) (a : Ask) (lent : ℕ) (pools : Lent) (turn : s .waiting ≡ false) where
   by-typed : {r : Wrote} (t : Typed) → a .typed ≡ t → r ≡ decideTyped s a (hasRoom (s .pending) (a .added) (recordsFor s a) lent pools) t → r ≡ decideEvent s a lent pools
   unfolding decideEvent
@@ -46,9 +50,9 @@ done {r} k e h m = rw (← e, eq-eqb (r .number) 0 h, m)
 refused : {r d : Wrote} (k after : Mem) → r ≡ d → (r .number ≡ 0 → ⊥) → outcome r k ≡ settled d k after
 refused {r} k after e h = rw (← e, ne-eqb (r .number) 0 h)
 
--- what is decided on the count of records that was taken is decided on the table
-decided : (k : Mem) (decide : ℕ → Lent → Wrote) {lent : ℕ} {r : Wrote} → lent ≡ recordsLent (k .table) → r ≡ decide lent (lentOf (k .pools)) → r ≡ decide (recordsLent (k .table)) (lentOf (k .pools))
-decided k decide lends decides = decides ∙ ap (λ (n : ℕ). decide n (lentOf (k .pools))) lends
+-- what is decided on the counts that were taken is decided on the lent memory
+pub decided : (k : Mem) (decide : ℕ → Lent → Wrote) {lent : ℕ} {pools : Lent} {r : Wrote} → lent ≡ recordsLent (k .table) → pools ≡ lentOf (k .pools) → r ≡ decide lent pools → r ≡ decide (recordsLent (k .table)) (lentOf (k .pools))
+decided k decide records words decides = decides ∙ (λ i. decide (records i) (words i))
 
 numbered : {r d : Wrote} → r ≡ d → r .number ≡ 0 → d .number ≡ 0
 numbered e h = ap (λ (w : Wrote). w .number) (sym e) ∙ h
@@ -58,15 +62,18 @@ pub malformed : (s : State) (k : Mem) (bytes : List ℕ) {p : Parsed} → p ≡ 
 unfolding eventCall
 malformed s k bytes h e = ap (eventOf s k) (sym e ∙ h)
 
-module _ (s : State) (k : Mem) (e : Event) {a : Ask} {lent : ℕ} {r : Wrote} (asks : a ≡ askOf (s .typing) e) (lends : lent ≡ recordsLent (k .table)) (decides : r ≡ decideEvent s a lent (lentOf (k .pools))) where
+pub well-formed : (s : State) (k : Mem) (e : Event) (bytes : List ℕ) {p : Parsed} {o : Outcome} → p ≡ heard bytes → p ≡ WellFormed e → o ≡ eventWith s (askOf (s .typing) e) e k → o ≡ eventCall s k bytes
+unfolding eventCall
+well-formed s k e bytes h f is = is ∙ ap (eventOf s k) (sym f ∙ h)
+
+module _ (s : State) (k : Mem) (e : Event) {a : Ask} {lent : ℕ} {pools : Lent} {r : Wrote} (asks : a ≡ askOf (s .typing) e) (records : lent ≡ recordsLent (k .table)) (words : pools ≡ lentOf (k .pools)) (decides : r ≡ decideEvent s a lent pools) where
+  decides-so : r ≡ decideEvent s a (recordsLent (k .table)) (lentOf (k .pools))
+  decides-so = decided k (decideEvent s a) records words decides
+
   pub event-room : r .number ≡ 0 → Room (s .pending) (a .added) (recordsFor s a) (recordsLent (k .table)) (lentOf (k .pools))
-  event-room h = event-accepted s _ _ a (numbered (decided k (decideEvent s a) lends decides) h)
+  event-room h = event-accepted s _ _ a (numbered decides-so h)
 
-  well-formed : (bytes : List ℕ) {p : Parsed} {k′ : Mem} → p ≡ heard bytes → p ≡ WellFormed e → outcome r k′ ≡ eventWith s a e k → outcome r k′ ≡ eventCall s k bytes
-  unfolding eventCall
-  well-formed bytes h f is = is ∙ ap (λ (b : Ask). eventWith s b e k) asks ∙ ap (eventOf s k) (sym f ∙ h)
-
-  pub event-taken : (bytes : List ℕ) {p : Parsed} → p ≡ heard bytes → p ≡ WellFormed e → r .number ≡ 0 → {table xy ends z m t tm : List ℕ}
+  pub event-taken : r .number ≡ 0 → {table xy ends z m t tm : List ℕ}
       → table ≡ tableAfter s a (k .table)
       → xy ≡ poolAfter s a e (k .pools) xyL
       → ends ≡ poolAfter s a e (k .pools) endsL
@@ -74,32 +81,32 @@ module _ (s : State) (k : Mem) (e : Event) {a : Ask} {lent : ℕ} {r : Wrote} (a
       → m ≡ poolAfter s a e (k .pools) mL
       → t ≡ poolAfter s a e (k .pools) tL
       → tm ≡ poolAfter s a e (k .pools) tmL
-      → outcome r (memOf table xy ends z m t tm) ≡ eventCall s k bytes
+      → outcome r (memOf table xy ends z m t tm) ≡ eventWith s (askOf (s .typing) e) e k
   unfolding eventWith memAfter
-  event-taken bytes h f ok table-is xy-is ends-is z-is m-is t-is tm-is =
-      well-formed bytes h f (done k (decided k (decideEvent s a) lends decides) ok (λ i. memOf (table-is i) (xy-is i) (ends-is i) (z-is i) (m-is i) (t-is i) (tm-is i)))
+  event-taken ok table-is xy-is ends-is z-is m-is t-is tm-is =
+      done k decides-so ok (λ i. memOf (table-is i) (xy-is i) (ends-is i) (z-is i) (m-is i) (t-is i) (tm-is i)) ∙ ap (λ (b : Ask). eventWith s b e k) asks
 
-  pub event-refused : (bytes : List ℕ) {p : Parsed} → p ≡ heard bytes → p ≡ WellFormed e → (r .number ≡ 0 → ⊥) → outcome r k ≡ eventCall s k bytes
+  pub event-refused : (r .number ≡ 0 → ⊥) → outcome r k ≡ eventWith s (askOf (s .typing) e) e k
   unfolding eventWith
-  event-refused bytes h f not-done = well-formed bytes h f (refused k (memAfter s a e k) (decided k (decideEvent s a) lends decides) not-done)
+  event-refused not-done = refused k (memAfter s a e k) decides-so not-done ∙ ap (λ (b : Ask). eventWith s b e k) asks
 
 -- ---- finish
 module _ (s : State) (k : Mem) {lent : ℕ} {r : Wrote} (lends : lent ≡ recordsLent (k .table)) (decides : r ≡ decideFinish s lent (lentOf (k .pools))) where
   pub finish-room : r .number ≡ 0 → Room (s .pending) noWords (s .parts + 1) (recordsLent (k .table)) (lentOf (k .pools))
-  finish-room h = finish-accepted s _ _ (numbered (decided k (decideFinish s) lends decides) h)
+  finish-room h = finish-accepted s _ _ (numbered (decided k (decideFinish s) lends refl decides) h)
 
   pub finish-taken : r .number ≡ 0 → {table : List ℕ} → table ≡ putRecord (k .table) 0 (rootOf s) → outcome r (memory table (k .pools)) ≡ finishCall s k
   unfolding finishCall
-  finish-taken ok table-is = done k (decided k (decideFinish s) lends decides) ok (λ i. memory (table-is i) (k .pools))
+  finish-taken ok table-is = done k (decided k (decideFinish s) lends refl decides) ok (λ i. memory (table-is i) (k .pools))
 
   pub finish-refused : (r .number ≡ 0 → ⊥) → outcome r k ≡ finishCall s k
   unfolding finishCall
-  finish-refused not-done = refused k _ (decided k (decideFinish s) lends decides) not-done
+  finish-refused not-done = refused k _ (decided k (decideFinish s) lends refl decides) not-done
 
 -- ---- next
 module _ (s : State) (k : Mem) {lent : ℕ} {r : Wrote} (lends : lent ≡ recordsLent (k .table)) (decides : r ≡ decideNext s lent (lentOf (k .pools))) where
   pub next-room : r .number ≡ 0 → Room (s .pending) noWords (s .parts + 1) (recordsLent (k .table)) (lentOf (k .pools))
-  next-room h = next-accepted s _ _ (numbered (decided k (decideNext s) lends decides) h)
+  next-room h = next-accepted s _ _ (numbered (decided k (decideNext s) lends refl decides) h)
 
   pub next-taken : r .number ≡ 0 → {xy ends z m t tm : List ℕ}
       → xy ≡ poolMoved s (k .pools) xyL
@@ -111,8 +118,8 @@ module _ (s : State) (k : Mem) {lent : ℕ} {r : Wrote} (lends : lent ≡ record
       → outcome r (memOf (k .table) xy ends z m t tm) ≡ nextCall s k
   unfolding nextCall
   next-taken ok xy-is ends-is z-is m-is t-is tm-is =
-      done k (decided k (decideNext s) lends decides) ok (λ i. memOf (k .table) (xy-is i) (ends-is i) (z-is i) (m-is i) (t-is i) (tm-is i))
+      done k (decided k (decideNext s) lends refl decides) ok (λ i. memOf (k .table) (xy-is i) (ends-is i) (z-is i) (m-is i) (t-is i) (tm-is i))
 
   pub next-refused : (r .number ≡ 0 → ⊥) → outcome r k ≡ nextCall s k
   unfolding nextCall
-  next-refused not-done = refused k _ (decided k (decideNext s) lends decides) not-done
+  next-refused not-done = refused k _ (decided k (decideNext s) lends refl decides) not-done

@@ -4,9 +4,9 @@ use mathlib.Core.Bool.{Bool, true, false, cond}
 use Prim.Native.Nat.{ℕ, _+_, _≤_}
 use native.Mathlib.Omega.{arith}
 use lib.Dec.{leb}
-use borrow.Author.Tests.{leb-true}
+use borrow.Author.Tests.{leb-true, le-leb}
 use Rattle.laws.specs.Every.{both}
-use Rattle.kinds.specs.LaneLaws.{lane-of-every}
+use Rattle.kinds.specs.LaneLaws.{lane-of-every, every-of-lanes}
 use Rattle.kinds.specs.Lanes.{Lane, xyL, endsL, zL, mL, tL, tmL, usable, lentIn, everyLane}
 use Rattle.kinds.specs.declared.geometry.Lent.{Lent}
 use Rattle.writer.specs.declared.state.Pending.{Pending}
@@ -40,15 +40,24 @@ room-of p a records lent pools h =
     let lane : (n : Lane) → (used (wordsIn p n) + more a n ≤ lentIn pools n) × (used (wordsIn p n) + more a n ≤ usable n) = λ n. room-in (used (wordsIn p n) + more a n) (lentIn pools n) (usable n) (lane-of-every (laneRoom p pools a) (t .1) n) in
     record { table = r .0; records-fit = r .1; words = λ n. lane n .0; fits = λ n. lane n .1 }
 
--- what has grown within the usable stays within it
-pub grown-fits : (p : Pending) (a : Added) → Fits p a → Fits (grownAll p a) noWords
+pub has-room-of : (p : Pending) (a : Added) (records lent : ℕ) (pools : Lent) → Room p a records lent pools → hasRoom p a records lent pools ≡ true
+unfolding hasRoom
+has-room-of p a records lent pools r =
+    let lanes : everyLane (laneRoom p pools a) ≡ true = every-of-lanes (laneRoom p pools a) (λ n. rw (le-leb _ _ (r .words n), le-leb _ _ (r .fits n))) in
+    rw (le-leb records lent (r .table), le-leb records 4096 (r .records-fit)) lanes
+
+-- what has grown within a bound stays within it
+pub grown-within : (p : Pending) (a : Added) (most : Lane → ℕ) → ((n : Lane) → used (wordsIn p n) + more a n ≤ most n) → (n : Lane) → used (wordsIn (grownAll p a) n) + more noWords n ≤ most n
 unfolding grownAll
-grown-fits p a h xyL = omega (arith, h xyL)
-grown-fits p a h endsL = omega (arith, h endsL)
-grown-fits p a h zL = omega (arith, h zL)
-grown-fits p a h mL = omega (arith, h mL)
-grown-fits p a h tL = omega (arith, h tL)
-grown-fits p a h tmL = omega (arith, h tmL)
+grown-within p a most h xyL = omega (arith, h xyL)
+grown-within p a most h endsL = omega (arith, h endsL)
+grown-within p a most h zL = omega (arith, h zL)
+grown-within p a most h mL = omega (arith, h mL)
+grown-within p a most h tL = omega (arith, h tL)
+grown-within p a most h tmL = omega (arith, h tmL)
+
+pub grown-fits : (p : Pending) (a : Added) → Fits p a → Fits (grownAll p a) noWords
+grown-fits p a h = grown-within p a usable h
 
 -- ---- a call that is accepted was in its turn, and had room
 in-turn : (s : State) (b : Bool) (r : Wrote) → cond b (wrote 15 s) r .number ≡ 0 → r .number ≡ 0

@@ -32,6 +32,15 @@ impl Added {
         tm: false,
     };
 
+    pub const END: Added = Added {
+        xy: false,
+        ends: true,
+        z: false,
+        m: false,
+        t: false,
+        tm: false,
+    };
+
     pub const NONE: Added = Added {
         xy: false,
         ends: false,
@@ -49,7 +58,7 @@ pub struct Ask {
     pub part: bool,
 }
 
-fn collects(typing: Typing) -> bool
+pub fn collects(typing: Typing) -> bool
     ensures { λ r. ⌜ r ≡ collects typing ⌝ }
 {
     typing.mode == Typing::GEOMETRY_COLLECTION
@@ -114,18 +123,24 @@ fn begin(typing: Typing, e: Event) -> Ask
 }
 
 // Of kind 64 the present bits are zero.
-fn pair(typing: Typing, present: u8) -> Ask
-    ensures { λ r. ⌜ r ≡ ask (Set typing) (pairWith present) false ⌝ }
+pub fn pair_with(present: u8) -> Added
+    ensures { λ r. ⌜ r ≡ pairWith present ⌝ }
 {
-    let typed = Typed::Set(typing);
-    let added = Added {
+    Added {
         xy: true,
         ends: false,
         z: bit_set(present, Flags::Z),
         m: bit_set(present, Flags::M),
         t: bit_set(present, Flags::T),
         tm: bit_set(present, Flags::TM),
-    };
+    }
+}
+
+fn pair(typing: Typing, present: u8) -> Ask
+    ensures { λ r. ⌜ r ≡ ask (Set typing) (pairWith present) false ⌝ }
+{
+    let typed = Typed::Set(typing);
+    let added = pair_with(present);
     Ask {
         typed,
         added,

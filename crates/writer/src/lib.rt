@@ -1,22 +1,24 @@
 // The geometry writer: events to tree, over the store.
 mod ask;
 mod decide;
+mod many;
 mod memory;
 mod pair;
 mod part;
 mod pending;
+mod plain;
 mod properties;
+mod record;
 mod room;
 mod set_type;
 mod state;
 
-use ask::ask_of;
-use kinds::event::Parsed;
+use kinds::event::Bare;
 use kinds::geometry::Lent;
 use kinds::refusal;
-use pair::is_alone;
+pub use many::Took;
+pub use many::events;
 use pair::take_alone;
-use pending::end_of;
 pub use properties::property;
 pub use state::Pending;
 pub use state::State;
@@ -69,37 +71,31 @@ pub fn event(
 ) -> Wrote
     ensures { λ r. ⌜ outcome r (memOf (now (table .exit)) (now (xy .exit)) (now (ends .exit)) (now (z .exit)) (now (m .exit)) (now (t .exit)) (now (tm .exit))) ≡ eventCall s (memOf (now (table .entry)) (now (xy .entry)) (now (ends .entry)) (now (z .entry)) (now (m .entry)) (now (t .entry)) (now (tm .entry))) (now (bytes .entry)) ⌝ }
 {
-    let heard = store::hear(bytes);
-    let Parsed::WellFormed(e) = heard else {
+    let bare = store::hear_bare(bytes);
+    if let Bare::Pair { x, y } = bare {
+        let lent = store::records_lent(table);
+        let pools = Lent {
+            xy: xy.len(),
+            ends: ends.len(),
+            z: z.len(),
+            m: m.len(),
+            t: t.len(),
+            tm: tm.len(),
+        };
+        return take_alone(s, x, y, lent, pools, xy);
+    }
+    if bytes.len() != 64 {
         return Wrote {
             number: refusal::MALFORMED,
             state: s,
         };
-    };
-    let lent = store::records_lent(table);
-    let pools = Lent {
-        xy: xy.len(),
-        ends: ends.len(),
-        z: z.len(),
-        m: m.len(),
-        t: t.len(),
-        tm: tm.len(),
-    };
-    if is_alone(e) {
-        return take_alone(s, e.x, e.y, lent, pools, xy);
     }
-    let a = ask_of(s.typing, e);
-    let taken = decide::decide_event(s, a, lent, pools);
-    if taken.number == refusal::DONE {
-        memory::finish_part(table, s, a);
-        memory::push_pair(xy, s.pending.xy, a.added.xy, e.x, e.y);
-        memory::push_end(ends, s.pending.ends, a.added.ends, end_of(s.pending.xy));
-        memory::push_word(z, s.pending.z, a.added.z, e.z);
-        memory::push_word(m, s.pending.m, a.added.m, e.m);
-        memory::push_word(t, s.pending.t, a.added.t, e.t);
-        memory::push_word(tm, s.pending.tm, a.added.tm, e.tm);
+    let took = events(s, bytes, table, xy, ends, z, m, t, tm);
+    let state = took.state;
+    Wrote {
+        number: took.number,
+        state,
     }
-    taken
 }
 
 // Lays the feature's root down, and has it wait. Refused: 15, 12.

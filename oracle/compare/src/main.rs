@@ -4,6 +4,7 @@ mod make;
 mod port;
 mod readings;
 mod rows;
+mod runs;
 mod tally;
 
 use input::{from_line, to_line, Input, Tree};
@@ -51,6 +52,7 @@ impl Run {
     fn compare(&mut self, input: &Input) {
         let difference = match input {
             Input::Row(row) => rows::compare(row, &mut self.tally).and_then(|trees| {
+                runs::compare(row, &mut self.tally)?;
                 let declared = row.declared;
                 let mut read =
                     |(i, store)| readings::compare_tree(&Tree { store, declared, flags: 0, cut: i as u32 }, &mut self.tally);

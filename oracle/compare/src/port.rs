@@ -1,4 +1,5 @@
 //! The proved library's calls, over memory that a test lends as long as it likes.
+use bintolage::link;
 use original::tree::Store;
 use std::ops::Range;
 
@@ -73,130 +74,10 @@ impl Memory {
     }
 }
 
-mod library {
-    extern "C" {
-        pub fn bintolage_start(declared: u8, detect: u8, promote: u8, state: *mut u32);
-        pub fn bintolage_event(
-            state: *mut u32,
-            event: *const u8,
-            event_length: usize,
-            table: *mut u8,
-            table_length: usize,
-            xy: *mut u64,
-            xy_length: usize,
-            ends: *mut u32,
-            ends_length: usize,
-            z: *mut u64,
-            z_length: usize,
-            m: *mut u64,
-            m_length: usize,
-            t: *mut u64,
-            t_length: usize,
-            tm: *mut u64,
-            tm_length: usize,
-        ) -> u8;
-        pub fn bintolage_property(
-            state: *mut u32,
-            column: u32,
-            kind: u8,
-            bits: u64,
-            text: *const u8,
-            text_length: usize,
-            buffer: *mut u8,
-            buffer_length: usize,
-        ) -> u8;
-        pub fn bintolage_finish(
-            state: *mut u32,
-            table: *mut u8,
-            table_length: usize,
-            xy: *const u64,
-            xy_length: usize,
-            ends: *const u32,
-            ends_length: usize,
-            z: *const u64,
-            z_length: usize,
-            m: *const u64,
-            m_length: usize,
-            t: *const u64,
-            t_length: usize,
-            tm: *const u64,
-            tm_length: usize,
-        ) -> u8;
-        pub fn bintolage_next(
-            state: *mut u32,
-            table: *const u8,
-            table_length: usize,
-            xy: *mut u64,
-            xy_length: usize,
-            ends: *mut u32,
-            ends_length: usize,
-            z: *mut u64,
-            z_length: usize,
-            m: *mut u64,
-            m_length: usize,
-            t: *mut u64,
-            t_length: usize,
-            tm: *mut u64,
-            tm_length: usize,
-        ) -> u8;
-        pub fn bintolage_read(
-            table: *const u8,
-            table_length: usize,
-            xy: *const u64,
-            xy_length: usize,
-            ends: *const u32,
-            ends_length: usize,
-            z: *const u64,
-            z_length: usize,
-            m: *const u64,
-            m_length: usize,
-            t: *const u64,
-            t_length: usize,
-            tm: *const u64,
-            tm_length: usize,
-            declared: u8,
-            flags: u8,
-            log: *mut u8,
-            log_length: usize,
-            count: *mut u32,
-        ) -> u8;
-        pub fn bintolage_read_properties(
-            bytes: *const u8,
-            bytes_length: usize,
-            has_columns: u8,
-            columns: *const u8,
-            columns_length: usize,
-            stop: u32,
-            log: *mut u8,
-            log_length: usize,
-            count: *mut u32,
-            stopped: *mut u8,
-        ) -> u8;
-        pub fn bintolage_box(
-            table: *const u8,
-            table_length: usize,
-            xy: *const u64,
-            xy_length: usize,
-            ends: *const u32,
-            ends_length: usize,
-            z: *const u64,
-            z_length: usize,
-            m: *const u64,
-            m_length: usize,
-            t: *const u64,
-            t_length: usize,
-            tm: *const u64,
-            tm_length: usize,
-            n: u32,
-            edges: *mut u64,
-        ) -> u8;
-    }
-}
-
 pub fn start(declared: u8, detect: bool, promote: bool) -> Words {
     let mut state = [0xC0DE_C0DE; 16];
     // SAFETY: the state is sixteen words.
-    unsafe { library::bintolage_start(declared, detect as u8, promote as u8, state.as_mut_ptr()) };
+    unsafe { link::bintolage_start(declared, detect as u8, promote as u8, state.as_mut_ptr()) };
     state
 }
 
@@ -207,7 +88,7 @@ macro_rules! lent {
         let [zs, ms, ts, tms] = &mut $memory.values;
         // SAFETY: each slice is lent within its vector.
         unsafe {
-            library::$call(
+            link::$call(
                 $($first,)* $memory.xy.$pointer(), xy, $memory.ends.$pointer(), ends, zs.$pointer(), z, ms.$pointer(), m,
                 ts.$pointer(), t, tms.$pointer(), tm $(, $last)*
             )
@@ -225,13 +106,22 @@ pub fn event(state: &mut Words, event: &[u8], memory: &mut Memory, lent: Lengths
     lent!(bintolage_event(state, event.as_ptr(), event.len(), table, lent[TABLE]) memory lent as_mut_ptr ())
 }
 
+/// The number, and how many events were taken.
+pub fn events(state: &mut Words, events: &[u8], memory: &mut Memory, lent: Lengths) -> (u8, usize) {
+    check(memory, lent);
+    let (state, table) = (state.as_mut_ptr(), memory.table.as_mut_ptr());
+    let mut taken = 0xC0DE_C0DE;
+    let number = lent!(bintolage_events(state, events.as_ptr(), events.len(), table, lent[TABLE]) memory lent as_mut_ptr (&mut taken));
+    (number, taken)
+}
+
 pub fn property(state: &mut Words, column: u32, kind: u8, bits: u64, text: &[u8], memory: &mut Memory, lent: Lengths) -> u8 {
     check(memory, lent);
     let buffer = memory.properties.as_mut_ptr();
     // SAFETY: the buffer is lent within its vector.
     unsafe {
         let (text, text_length) = (text.as_ptr(), text.len());
-        library::bintolage_property(state.as_mut_ptr(), column, kind, bits, text, text_length, buffer, lent[PROPERTIES])
+        link::bintolage_property(state.as_mut_ptr(), column, kind, bits, text, text_length, buffer, lent[PROPERTIES])
     }
 }
 
@@ -277,7 +167,7 @@ pub fn read_properties(bytes: &[u8], columns: Option<&[u8]>, stop: u32, log: &mu
         let (bytes, bytes_length) = (bytes.as_ptr(), bytes.len());
         let (log, log_length) = (log.as_mut_ptr(), log.len());
         let (count, stopped) = (&mut count, &mut stopped);
-        library::bintolage_read_properties(
+        link::bintolage_read_properties(
             bytes,
             bytes_length,
             has_columns,

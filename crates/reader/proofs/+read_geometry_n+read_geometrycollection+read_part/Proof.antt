@@ -13,6 +13,7 @@ use Rattle.store.specs.Lists.{poolsOf, listsOf, recordWith}
 use Rattle.store.specs.Log.{events}
 use Rattle.reader.specs.Reading.{partsS}
 use Rattle.reader.specs.declared.walk.Walk.{Walk}
+use Rattle.reader.specs.Lone.{lone-bounds, lone-fits, part-lone}
 use Rattle.reader.specs.Walks.{Typed, partS, walkS}
 use Rattle.reader.specs.WalkLaws.{in-typed, part-deep, part-bad, part-good, good-record, good-lists, bad-record, walk-own, walk-parts, walk-refused, span-absent, span-there, parts-step, parts-over}
 use Prim.Native.Nat.{ℕ, _<_}
@@ -30,7 +31,9 @@ use Rattle.reader.proofs.+read_geometry_n+read_geometrycollection+read_
 use Rattle.kinds.proofs.event.Event.begin.Reads as begin-reads
 use Rattle.kinds.proofs.event.Event.end.Reads as end-reads
 use Rattle.lines.proofs.read_own.Reads as read-own-reads
+use Rattle.lines.proofs.read_lone_ring.Reads as read-lone-ring-reads
 use Rattle.reader.proofs.lent_of.Reads as lent-of-reads
+use Rattle.reader.proofs.lone_part.Reads as lone-part-reads
 use Rattle.reader.proofs.walk.walk_in.Reads as walk-in-reads
 use Rattle.store.proofs.say.Reads as say-reads
 use Rattle.store.proofs.record_at.Reads as record-at-reads
@@ -150,6 +153,10 @@ pub +read-geometry-n+read-geometrycollection+read-part-spec : {M : Type 1} → s
     (λ c. search needs)
     (λ c. let a = c .before .before .before .before .before .before .before .before .before .before .before .before .before .before .before .before .before .before .before .before .before .before .before .before .before .args in let l = c .before .before .before .before .before .before .loop in rw (span-there (partS (a .flags) (a .role) (a .levels) (recordWith (a .table .now) (poolsOf (a .xy .now) (a .ends .now) (a .z .now) (a .m .now) (a .t .now) (a .tm .now)))) (a .kind) (a .idx) (c .before .before .before .before .before .before .before .before .before .before .before .before .before .before .before .parts .given .1)) (began events _ _ _ _ (c .before .before .before .before .before .before .before .before .before .before .before .before .begin .ensures) (c .before .before .before .before .before .before .before .before .before .before .before .say .ensures) (c .before .before .before .before .before .before .before .if1 .left) ∙ l .inv .2 ∙ ap (λ (s : Script Event). run events s (l .log) (l .said)) (parts-over _ _ _ (c .before .before .before .before .before .loop-test .left)) ∙ (rw (c .before .before .before .end .ensures) at (c .before .before .say2 .ensures)))))
     λ t. read-part-lts.spec (
+      lone-part-reads.Asked,
+      lone-part-reads.Learnt,
+      read-lone-ring-reads.Asked,
+      read-lone-ring-reads.Learnt,
       lent-of-reads.Asked,
       lent-of-reads.Learnt,
       record-at-reads.Asked,
@@ -163,12 +170,25 @@ pub +read-geometry-n+read-geometrycollection+read-part-spec : {M : Type 1} → s
     read-part.Post
     (λ c. let a = c .before .before .before .before .before .before .before .before .before .args in ended events _ _ 13 refl (part-deep (a .flags) (a .role) (a .levels) (recordWith (a .table .now) (poolsOf (a .xy .now) (a .ends .now) (a .z .now) (a .m .now) (a .t .now) (a .tm .now))) (a .n) (a .idx) (c .if1 .taken)))
     (λ c κs. search needs)
+    (λ c. search needs)
+    (λ c. search needs)
+    (λ c. search needs)
+    (λ c. search needs)
+    (λ c. search needs)
+    (λ c. search needs)
+    (λ c. search needs)
+    (λ c. let a = c .before .before .before .before .before .before .before .before .before .before .before .before .before .before .args in omega (arith, lone-bounds (a .flags) (a .role) (a .table .now) (poolsOf (a .xy .now) (a .ends .now) (a .z .now) (a .m .now) (a .t .now) (a .tm .now)) (a .n) (c .before .before .before .before .lone-part .ensures) (c .before .before .start .given .1) .0))
+    (λ c κs. let a = c .before .before .before .before .before .before .before .before .before .before .before .before .before .before .before .args in lone-fits (a .flags) (a .role) (a .table .now) (poolsOf (a .xy .now) (a .ends .now) (a .z .now) (a .m .now) (a .t .now) (a .tm .now)) (a .n) (c .before .before .before .before .before .lone-part .ensures) (c .before .before .before .start .given .1))
+    (λ c. search needs)
+    (λ c. let a = c .before .before .before .before .before .before .before .before .before .before .before .before .before .before .before .before .before .before .args in rw (part-lone (a .flags) (a .role) (a .table .now) (poolsOf (a .xy .now) (a .ends .now) (a .z .now) (a .m .now) (a .t .now) (a .tm .now)) (a .n) (c .before .before .before .before .before .before .before .before .lone-part .ensures) (c .before .before .before .before .before .before .start .given .1) (a .levels) (a .idx) (c .before .before .before .before .before .before .before .before .before .if1 .left)) (c .before .before .read-lone-ring .ensures))
+    (λ c. search needs)
+    (λ c κs. search needs)
     (λ c κs. search needs)
     (λ c. search needs)
     (λ c κs. search needs)
-    (λ c. omega (arith, pos-of-ne-zero (c .before .before .before .before .before .before .before .if1 .left)))
-    (λ c κs. let a = c .before .before .before .before .before .before .before .before .before .before .before .before .before .before .before .before .args in (omega (arith, pos-of-ne-zero (c .before .before .before .before .before .before .before .if1 .left), c .before .before .before .before .before .before .before .before .before .before .before .before .before .before .before .before .pre .0), (good-lists (a .table .now) (poolsOf (a .xy .now) (a .ends .now) (a .z .now) (a .m .now) (a .t .now) (a .tm .now)) (a .n) (c .before .before .before .before .before .before .lent-of .ensures) (c .before .before .before .before .before .record-at .ensures) (c .before .before .before .g .given .1), rw (c .before .walk-in .ensures) (in-typed (a .role) _))))
+    (λ c. omega (arith, pos-of-ne-zero (c .before .before .before .before .before .before .before .before .before .before .if1 .left)))
+    (λ c κs. let a = c .before .before .before .before .before .before .before .before .before .before .before .before .before .before .before .before .before .before .before .args in (omega (arith, pos-of-ne-zero (c .before .before .before .before .before .before .before .before .before .before .if1 .left), c .before .before .before .before .before .before .before .before .before .before .before .before .before .before .before .before .before .before .before .pre .0), (good-lists (a .table .now) (poolsOf (a .xy .now) (a .ends .now) (a .z .now) (a .m .now) (a .t .now) (a .tm .now)) (a .n) (c .before .before .before .before .before .before .lent-of .ensures) (c .before .before .before .before .before .record-at .ensures) (c .before .before .before .g .given .1), rw (c .before .walk-in .ensures) (in-typed (a .role) _))))
     (λ c. search needs)
     (λ c. search needs)
-    (λ c. let a = c .before .before .before .before .before .before .before .before .before .before .before .before .before .before .before .before .before .before .before .args in rw (part-good (a .flags) (a .role) (a .levels) (recordWith (a .table .now) (poolsOf (a .xy .now) (a .ends .now) (a .z .now) (a .m .now) (a .t .now) (a .tm .now))) (a .n) (a .idx) (c .before .before .before .before .before .before .before .before .before .before .if1 .left) (listsOf (poolsOf (a .xy .now) (a .ends .now) (a .z .now) (a .m .now) (a .t .now) (a .tm .now)) (c .before .before .before .before .before .before .g .given .0 .0)) (good-record (a .table .now) (poolsOf (a .xy .now) (a .ends .now) (a .z .now) (a .m .now) (a .t .now) (a .tm .now)) (a .n) (c .before .before .before .before .before .before .before .before .before .lent-of .ensures) (c .before .before .before .before .before .before .before .before .record-at .ensures) (c .before .before .before .before .before .before .g .given .1)) ∙ ap (λ (w : Walk). walkS (a .flags) (a .levels - 1) (recordWith (a .table .now) (poolsOf (a .xy .now) (a .ends .now) (a .z .now) (a .m .now) (a .t .now) (a .tm .now))) (listsOf (poolsOf (a .xy .now) (a .ends .now) (a .z .now) (a .m .now) (a .t .now) (a .tm .now)) (c .before .before .before .before .before .before .g .given .0 .0)) w (a .idx)) (sym (c .before .before .before .before .walk-in .ensures))) (c .before .before .read-geometry-n .ensures))
-    (λ c. let a = c .before .before .before .before .before .before .before .before .before .before .before .before .before .args in ended events _ _ 10 refl (part-bad (a .flags) (a .role) (a .levels) (recordWith (a .table .now) (poolsOf (a .xy .now) (a .ends .now) (a .z .now) (a .m .now) (a .t .now) (a .tm .now))) (a .n) (a .idx) (c .before .before .before .before .if1 .left) (bad-record (a .table .now) (poolsOf (a .xy .now) (a .ends .now) (a .z .now) (a .m .now) (a .t .now) (a .tm .now)) (a .n) (c .before .before .before .lent-of .ensures) (c .before .before .record-at .ensures) (c .enum-told .given .1))))
+    (λ c. let a = c .before .before .before .before .before .before .before .before .before .before .before .before .before .before .before .before .before .before .before .before .before .before .args in rw (part-good (a .flags) (a .role) (a .levels) (recordWith (a .table .now) (poolsOf (a .xy .now) (a .ends .now) (a .z .now) (a .m .now) (a .t .now) (a .tm .now))) (a .n) (a .idx) (c .before .before .before .before .before .before .before .before .before .before .before .before .before .if1 .left) (listsOf (poolsOf (a .xy .now) (a .ends .now) (a .z .now) (a .m .now) (a .t .now) (a .tm .now)) (c .before .before .before .before .before .before .g .given .0 .0)) (good-record (a .table .now) (poolsOf (a .xy .now) (a .ends .now) (a .z .now) (a .m .now) (a .t .now) (a .tm .now)) (a .n) (c .before .before .before .before .before .before .before .before .before .lent-of .ensures) (c .before .before .before .before .before .before .before .before .record-at .ensures) (c .before .before .before .before .before .before .g .given .1)) ∙ ap (λ (w : Walk). walkS (a .flags) (a .levels - 1) (recordWith (a .table .now) (poolsOf (a .xy .now) (a .ends .now) (a .z .now) (a .m .now) (a .t .now) (a .tm .now))) (listsOf (poolsOf (a .xy .now) (a .ends .now) (a .z .now) (a .m .now) (a .t .now) (a .tm .now)) (c .before .before .before .before .before .before .g .given .0 .0)) w (a .idx)) (sym (c .before .before .before .before .walk-in .ensures))) (c .before .before .read-geometry-n .ensures))
+    (λ c. let a = c .before .before .before .before .before .before .before .before .before .before .before .before .before .before .before .before .args in ended events _ _ 10 refl (part-bad (a .flags) (a .role) (a .levels) (recordWith (a .table .now) (poolsOf (a .xy .now) (a .ends .now) (a .z .now) (a .m .now) (a .t .now) (a .tm .now))) (a .n) (a .idx) (c .before .before .before .before .before .before .before .if1 .left) (bad-record (a .table .now) (poolsOf (a .xy .now) (a .ends .now) (a .z .now) (a .m .now) (a .t .now) (a .tm .now)) (a .n) (c .before .before .before .lent-of .ensures) (c .before .before .record-at .ensures) (c .enum-told2 .given .1))))

@@ -5,4 +5,6 @@ use Rattle.writer.proofs.ask.pair.Tie as tie
 pub pair-spec : {M : Type 1} → statement M
 pair-spec =
     tie.close
-    (tie.spec (λ c κs. search needs) (λ c κs. search needs) (λ c κs. search needs) (λ c κs. search needs) (λ c. cc))
+    (tie.spec
+    (λ c κs. search needs)
+    (λ c. cc))

@@ -1,9 +1,7 @@
-use mathlib.Core.Path.{refl, sym, _∙_}
+use mathlib.Core.Path.{sym, _∙_}
 use borrow.Author.Needs.{needs}
-use Rattle.laws.specs.Cond.{if-so}
-use Rattle.writer.specs.Ends.{event-mixed, event-done, event-full}
+use Rattle.writer.specs.Ends.{event-waits, event-mixed, event-done, event-full}
 use Rattle.writer.specs.Room.{room-of}
-use Rattle.writer.specs.Calls.{decideEvent}
 use Rattle.writer.proofs.decide.decide_event.Statement.{statement}
 use Rattle.writer.proofs.decide.decide_event.Tie as tie
 
@@ -11,7 +9,7 @@ pub decide-event-spec : {M : Type 1} → statement M
 decide-event-spec =
     tie.close
     (tie.spec
-    (λ c. unfold decideEvent in if-so _ (c .if1 .taken) refl)
+    (λ c. event-waits _ _ _ _ (c .if1 .taken))
     (λ c. search needs)
     (λ c. search needs)
     (λ c κs. search needs)
