@@ -15,10 +15,12 @@ use Rattle.bbox.specs.Geometry.{boxedOf}
 use Rattle.reader.specs.Reading.{readS}
 use Rattle.props.specs.Writing.{bytesAfter}
 use Rattle.props.specs.Reading.{reading, stopped, values}
+use Rattle.writer.specs.declared.many.Took.{Took}
 use Rattle.writer.specs.declared.state.State.{State}
 use Rattle.writer.specs.declared.state.Wrote.{Wrote}
 use Rattle.writer.specs.State.{Mem, memOf, outcome, Outcome}
 use Rattle.writer.specs.Calls.{started, eventCall, finishCall, nextCall}
+use Rattle.writer.specs.Events.{Progress, progress, eventsCall}
 use Rattle.writer.specs.Property.{propertyCall}
 use Rattle.terminal.specs.Calls.{Kept, kept}
 
@@ -64,6 +66,22 @@ module _ (r r′ : Wrote) (table table′ xy xy′ ends ends′ z z′ m m′ t 
 
   pub next-once : (s : State) (k : Mem) → left ≡ nextCall s k → left′ ≡ nextCall s k → Same
   next-once s k h h′ = same (h ∙ sym h′)
+
+-- ---- events: how many were taken, too
+module _ (r r′ : Took) (table table′ xy xy′ ends ends′ z z′ m m′ t t′ tm tm′ : List ℕ) where
+  pub events-once : (s : State) (k : Mem) (bytes : List ℕ) → progress r (memOf table xy ends z m t tm) ≡ eventsCall s k bytes → progress r′ (memOf table′ xy′ ends′ z′ m′ t′ tm′) ≡ eventsCall s k bytes
+      → (r ≡ r′) × (table ≡ table′) × (xy ≡ xy′) × (ends ≡ ends′) × (z ≡ z′) × (m ≡ m′) × (t ≡ t′) × (tm ≡ tm′)
+  events-once s k bytes h h′ =
+      let e : progress r (memOf table xy ends z m t tm) ≡ progress r′ (memOf table′ xy′ ends′ z′ m′ t′ tm′) = h ∙ sym h′ in (
+        ap (λ (p : Progress). p .took) e,
+        ap (λ (p : Progress). p .mem .table) e,
+        ap (λ (p : Progress). p .mem .pools .xy) e,
+        ap (λ (p : Progress). p .mem .pools .ends) e,
+        ap (λ (p : Progress). p .mem .pools .z) e,
+        ap (λ (p : Progress). p .mem .pools .m) e,
+        ap (λ (p : Progress). p .mem .pools .t) e,
+        ap (λ (p : Progress). p .mem .pools .tm) e,
+      )
 
 pub start-once : (declared : ℕ) (detect promote : Bool) (s s′ : State) → s ≡ started declared detect promote → s′ ≡ started declared detect promote → s ≡ s′
 start-once declared detect promote s s′ h h′ = h ∙ sym h′
