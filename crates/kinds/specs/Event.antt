@@ -6,6 +6,8 @@ use Rattle.kinds.specs.declared.event.Event.{Event}
 use Rattle.kinds.specs.declared.event.Uses.{Uses}
 use Rattle.kinds.specs.declared.event.Bare.{Bare}
 use Rattle.kinds.specs.declared.event.Bare.the-variants.{Pair, Other}
+use Rattle.kinds.specs.declared.event.Valued.{Valued}
+use Rattle.kinds.specs.declared.event.Valued.the-variants.{Coordinate, Other as Valueless}
 use Rattle.kinds.specs.declared.event.Parsed.{Parsed}
 use Rattle.kinds.specs.declared.event.Parsed.the-variants.{WellFormed, Malformed}
 
@@ -103,6 +105,19 @@ isFrame e =
 abbrev pub bareOf : Parsed → Bare
 bareOf (WellFormed e) = cond (isXy (e .kind)) (Pair (e .x) (e .y)) Other
 bareOf Malformed = Other
+
+-- bytes that are a coordinate event
+abbrev pub valuedOf : Parsed → Valued
+valuedOf (WellFormed e) = cond (isCoordinate (e .kind)) (Coordinate e) Valueless
+valuedOf Malformed = Valueless
+
+-- a begin that sets no type
+abbrev pub isQuiet : Event → Bool
+isQuiet e = isTaggedType (e .kind) && not (e .tagged)
+
+abbrev pub quietOf : Parsed → Bool
+quietOf (WellFormed e) = isQuiet e
+quietOf Malformed = false
 
 -- the paper's number for each case: done, or 11
 abbrev pub parsedNumber : Parsed → ℕ

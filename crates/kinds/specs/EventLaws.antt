@@ -6,10 +6,11 @@ use lib.Dec.{ltb, eqb}
 use borrow.Author.Tests.{eqb-true, ne-eqb}
 use Rattle.laws.specs.Every.{never, both, other, every, every-at}
 use Rattle.kinds.specs.declared.event.Bare.the-variants.{Pair, Other}
+use Rattle.kinds.specs.declared.event.Valued.the-variants.{Coordinate, Other as Valueless}
 use Rattle.kinds.specs.declared.event.Event.{Event}
 use Rattle.kinds.specs.declared.event.Parsed.the-variants.{WellFormed, Malformed}
 use Rattle.kinds.specs.declared.event.Uses.{Uses}
-use Rattle.kinds.specs.Event.{isBegin, isEnd, usesTagged, usesSize, usesOf, bitSet, isBare, isValued, isFrame, wellFormed, bareOf}
+use Rattle.kinds.specs.Event.{isBegin, isEnd, usesTagged, usesSize, usesOf, bitSet, isTaggedType, isBare, isValued, isFrame, isQuiet, wellFormed, bareOf, valuedOf, quietOf}
 
 -- ---- what a range of kinds uses, by a test that antt computes over the range
 abbrev pub same : Uses → Uses → Bool
@@ -81,6 +82,14 @@ valued-formed e h =
     rw h
     (valued-rules (e .tagged) (ltb (e .present) 16) (eqb (e .size) 0) (bitSet (e .present) 1 || eqb (e .z) 0) (bitSet (e .present) 2 || eqb (e .m) 0) (bitSet (e .present) 4 || eqb (e .t) 0) (bitSet (e .present) 8 || eqb (e .tm) 0))
 
+pub valued-other : (formed : Bool) (e : Event) → (e .kind ≡ 65 → ⊥) → Valueless ≡ valuedOf (cond formed (WellFormed e) Malformed)
+valued-other true e h = rw (ne-eqb (e .kind) 65 h)
+valued-other false e h = refl
+
+pub valued-coordinate : (formed : Bool) (e : Event) → e .kind ≡ 65 → cond formed (Coordinate e) Valueless ≡ valuedOf (cond formed (WellFormed e) Malformed)
+valued-coordinate true e h = rw h
+valued-coordinate false e h = refl
+
 -- ---- any other kind: no pair and no value
 frame-rules : (idx tagged size x y z m t tm : Bool) (present : ℕ) (none : Bool) → eqb present 0 ≡ none
     → (idx && tagged && eqb present 0 && size && x && y && z && m && t && tm)
@@ -95,3 +104,15 @@ unfolding isFrame wellFormed
 frame-formed e a b =
     rw (ne-eqb (e .kind) 64 a, ne-eqb (e .kind) 65 b)
     (frame-rules (isBegin (e .kind) || isEnd (e .kind) || false || false) (usesTagged (e .kind) || not (e .tagged)) (usesSize (e .kind) || eqb (e .size) 0) (eqb (e .x) 0) (eqb (e .y) 0) (eqb (e .z) 0) (eqb (e .m) 0) (eqb (e .t) 0) (eqb (e .tm) 0) (e .present) (eqb (e .present) 0) refl)
+
+quiet-kind : (kind : ℕ) → isTaggedType kind ≡ true → (kind ≡ 64 → ⊥) × (kind ≡ 65 → ⊥)
+quiet-kind kind h = (λ is. never (rw is at h), λ is. never (rw is at h))
+
+pub quiet-formed : (e : Event) → isQuiet e ≡ true → isFrame e ≡ wellFormed e
+quiet-formed e h = let k = quiet-kind (e .kind) (both (isTaggedType (e .kind)) (not (e .tagged)) h .0) in frame-formed e (k .0) (k .1)
+
+pub quiet-read : (formed quiet : Bool) (e : Event) → isQuiet e ≡ quiet → (quiet && formed) ≡ quietOf (cond formed (WellFormed e) Malformed)
+quiet-read true true e h = rw h
+quiet-read true false e h = rw h
+quiet-read false true e h = refl
+quiet-read false false e h = refl

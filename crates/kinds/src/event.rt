@@ -4,7 +4,7 @@ ghost use mathlib.Core.Path.{_≡_};
 ghost use mathlib.Core.Bool.{_||_};
 ghost use Prim.Native.Nat.{_+_, _<_};
 ghost use lib.Dec.{eqb};
-ghost use Rattle.kinds.specs.Event.{usesOf, isBare, isValued, isFrame, wellFormed, beginE, endE, xyE, coordinateE, bitSet};
+ghost use Rattle.kinds.specs.Event.{usesOf, isBare, isValued, isFrame, isQuiet, wellFormed, beginE, endE, xyE, coordinateE, bitSet};
 
 pub struct Event {
     pub kind: u8,
@@ -38,6 +38,12 @@ pub enum Parsed {
 // Bytes that were read as a pair with nothing beside it, by far the commonest event, or as any other.
 pub enum Bare {
     Pair { x: u64, y: u64 },
+    Other,
+}
+
+// Bytes that were read as a pair with values beside it, or as any other event.
+pub enum Valued {
+    Coordinate(Event),
     Other,
 }
 
@@ -210,7 +216,7 @@ impl Event {
     }
 
     // Whether it has no more than an index, a pair and the values that are present.
-    fn is_valued(self) -> bool
+    pub fn is_valued(self) -> bool
         ensures { λ r. ⌜ r ≡ isValued self ⌝ }
     {
         let present = self.present;
@@ -223,8 +229,19 @@ impl Event {
             & (bit_set(present, Flags::TM) | (self.tm == 0))
     }
 
+    // Whether it is a begin that sets no type: of a line, a polygon or a triangle, and not tagged.
+    pub fn is_quiet(self) -> bool
+        ensures { λ r. ⌜ r ≡ isQuiet self ⌝ }
+    {
+        let kind = self.kind;
+        ((kind == Event::LINE_STRING_BEGIN)
+            | (kind == Event::POLYGON_BEGIN)
+            | (kind == Event::TRIANGLE_BEGIN))
+            & !self.tagged
+    }
+
     // Whether its kind is a begin or an end, and it has no more than an index, a tag and a size, each where the kind uses it.
-    fn is_frame(self) -> bool
+    pub fn is_frame(self) -> bool
         ensures { λ r. ⌜ r ≡ isFrame self ⌝ }
     {
         let uses = Event::uses(self.kind);

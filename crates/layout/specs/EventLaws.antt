@@ -11,10 +11,11 @@ use borrow.Author.Tests.{eqb-true, eqb-false, eq-eqb, leb-true}
 use Rattle.laws.specs.Every.{both}
 use Rattle.laws.specs.Bytes.{le, wordAt, Bytes, unle-le, le-part, joined, four-at}
 use Rattle.kinds.specs.declared.event.Bare.the-variants.{Pair, Other}
+use Rattle.kinds.specs.declared.event.Valued.the-variants.{Coordinate, Other as Valueless}
 use Rattle.kinds.specs.declared.event.Event.{Event}
 use Rattle.kinds.specs.declared.event.Parsed.the-variants.{WellFormed, Malformed}
-use Rattle.kinds.specs.Event.{wellFormed, isBare, bareOf, EventSized}
-use Rattle.kinds.specs.EventLaws.{bare-formed, bare-other, bare-pair}
+use Rattle.kinds.specs.Event.{wellFormed, isBare, isValued, isFrame, isQuiet, bareOf, valuedOf, quietOf, EventSized}
+use Rattle.kinds.specs.EventLaws.{bare-formed, bare-other, bare-pair, valued-formed, valued-other, valued-coordinate, quiet-formed, quiet-read}
 use Rattle.layout.specs.Head.{headBytes}
 use Rattle.layout.specs.Event.{bit, doubleBytes, eventBytes, eventOf, spareZero, readEvent}
 
@@ -123,7 +124,7 @@ event-forth l e b h = go (eqb (length l) 64) (spareZero l) (wellFormed (eventOf 
     go true false r p q s h = let z : _≡_ {A = ℕ} 0 1 = cc in absurd (omega arith)
     go false q r p s t h = let z : _≡_ {A = ℕ} 0 1 = cc in absurd (omega arith)
 
--- ---- 64 bytes are an xy event, or not, by fewer tests
+-- ---- 64 bytes are an xy event, a coordinate, a begin that sets no type, or not, by fewer tests
 module _ (l : List ℕ) (e : Event) (long : length l ≡ 64) (is : e ≡ eventOf l) where
   pub other-read : (e .kind ≡ 64 → ⊥) → Other ≡ bareOf (readEvent l)
   unfolding readEvent
@@ -132,3 +133,19 @@ module _ (l : List ℕ) (e : Event) (long : length l ≡ 64) (is : e ≡ eventOf
   pub bare-read : e .kind ≡ 64 → cond (spareZero l && isBare e) (Pair (e .x) (e .y)) Other ≡ bareOf (readEvent l)
   unfolding readEvent
   bare-read h = rw (eq-eqb (length l) 64 long, ← is, bare-formed e h) (bare-pair (spareZero l && wellFormed e) e h)
+
+  pub valueless-read : (e .kind ≡ 65 → ⊥) → Valueless ≡ valuedOf (readEvent l)
+  unfolding readEvent
+  valueless-read h = rw (eq-eqb (length l) 64 long, ← is) (valued-other (spareZero l && wellFormed e) e h)
+
+  pub valued-read : e .kind ≡ 65 → cond (spareZero l && isValued e) (Coordinate e) Valueless ≡ valuedOf (readEvent l)
+  unfolding readEvent
+  valued-read h = rw (eq-eqb (length l) 64 long, ← is, valued-formed e h) (valued-coordinate (spareZero l && wellFormed e) e h)
+
+  pub loud-read : isQuiet e ≡ false → false ≡ quietOf (readEvent l)
+  unfolding readEvent
+  loud-read h = rw (eq-eqb (length l) 64 long, ← is) (quiet-read (spareZero l && wellFormed e) false e h)
+
+  pub quiet-is-read : isQuiet e ≡ true → (spareZero l && isFrame e) ≡ quietOf (readEvent l)
+  unfolding readEvent
+  quiet-is-read h = rw (eq-eqb (length l) 64 long, ← is, quiet-formed e h) (quiet-read (spareZero l && wellFormed e) true e h)

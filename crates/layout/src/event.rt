@@ -7,10 +7,11 @@ use crate::words::u64_at;
 use kinds::event::Bare;
 use kinds::event::Event;
 use kinds::event::Parsed;
+use kinds::event::Valued;
 ghost use mathlib.Core.Path.{_≡_};
 ghost use lib.ListN.{length};
 ghost use lib.Seq.{sets};
-ghost use Rattle.kinds.specs.Event.{bareOf};
+ghost use Rattle.kinds.specs.Event.{bareOf, valuedOf, quietOf};
 ghost use Rattle.layout.specs.Event.{bit, doubleBytes, eventBytes, eventOf, spareZero, readEvent};
 
 fn byte_of(on: bool) -> u8
@@ -105,5 +106,38 @@ pub fn read_bare(bytes: &[u8]) -> Bare
         Bare::Pair { x: e.x, y: e.y }
     } else {
         Bare::Other
+    }
+}
+
+// A pair with values beside it, or any other event.
+pub fn read_valued(bytes: &[u8]) -> Valued
+    ensures { λ r. ⌜ r ≡ valuedOf (readEvent (now (bytes .entry))) ⌝ }
+{
+    if bytes.len() != 64 {
+        return Valued::Other;
+    }
+    let e = event_of(bytes);
+    if e.kind != Event::COORDINATE {
+        return Valued::Other;
+    }
+    if spare_zero(bytes) & e.is_valued() {
+        Valued::Coordinate(e)
+    } else {
+        Valued::Other
+    }
+}
+
+// Whether it is a begin that sets no type.
+pub fn read_quiet(bytes: &[u8]) -> bool
+    ensures { λ r. ⌜ r ≡ quietOf (readEvent (now (bytes .entry))) ⌝ }
+{
+    if bytes.len() != 64 {
+        return false;
+    }
+    let e = event_of(bytes);
+    if e.is_quiet() {
+        spare_zero(bytes) & e.is_frame()
+    } else {
+        false
     }
 }

@@ -7,6 +7,8 @@ mod words;
 pub use event::put_event;
 pub use event::read_bare;
 pub use event::read_event;
+pub use event::read_quiet;
+pub use event::read_valued;
 pub use geometry::lone_list;
 pub use geometry::put_geometry;
 pub use geometry::read_geometry;

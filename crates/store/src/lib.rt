@@ -4,6 +4,8 @@ mod records;
 
 pub use log::hear;
 pub use log::hear_bare;
+pub use log::hear_quiet;
+pub use log::hear_valued;
 pub use log::say;
 pub use records::lone_list_at;
 pub use records::put_record;

@@ -3,11 +3,12 @@ use kinds::answer::Answer;
 use kinds::event::Bare;
 use kinds::event::Event;
 use kinds::event::Parsed;
+use kinds::event::Valued;
 use kinds::refusal;
 use kinds::usable;
 ghost use mathlib.Core.Path.{_≡_};
 ghost use Rattle.laws.specs.Script.{one, out, roomAt, run};
-ghost use Rattle.kinds.specs.Event.{bareOf};
+ghost use Rattle.kinds.specs.Event.{bareOf, valuedOf, quietOf};
 ghost use Rattle.store.specs.Log.{events, heard};
 
 // The event that bytes are, or malformed.
@@ -22,6 +23,20 @@ pub fn hear_bare(bytes: &[u8]) -> Bare
     ensures { λ r. ⌜ r ≡ bareOf (heard (now (bytes .entry))) ⌝ }
 {
     layout::read_bare(bytes)
+}
+
+// The event that bytes are if they are a coordinate.
+pub fn hear_valued(bytes: &[u8]) -> Valued
+    ensures { λ r. ⌜ r ≡ valuedOf (heard (now (bytes .entry))) ⌝ }
+{
+    layout::read_valued(bytes)
+}
+
+// Whether bytes are a begin that sets no type.
+pub fn hear_quiet(bytes: &[u8]) -> bool
+    ensures { λ r. ⌜ r ≡ quietOf (heard (now (bytes .entry))) ⌝ }
+{
+    layout::read_quiet(bytes)
 }
 
 fn has_room(log: &[u8], count: usize) -> bool

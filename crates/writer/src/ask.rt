@@ -96,11 +96,7 @@ fn begun(typing: Typing, e: Event) -> Typed
     ensures { λ r. ⌜ r ≡ begun typing e ⌝ }
 {
     let kind = e.kind;
-    if ((kind == Event::LINE_STRING_BEGIN)
-        | (kind == Event::POLYGON_BEGIN)
-        | (kind == Event::TRIANGLE_BEGIN))
-        & !e.tagged
-    {
+    if e.is_quiet() {
         return Typed::Set(typing);
     }
     if kind == Event::GEOMETRY_COLLECTION_BEGIN {

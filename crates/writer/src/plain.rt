@@ -13,28 +13,17 @@ use kinds::event::Event;
 use kinds::geometry::Lent;
 use kinds::refusal;
 ghost use mathlib.Core.Path.{_≡_};
-ghost use mathlib.Core.Bool.{true, not, _&&_, cond};
+ghost use mathlib.Core.Bool.{true, cond};
 ghost use mathlib.Core.List.{[], _∷_};
 ghost use Prim.Native.Nat.{_/_};
 ghost use lib.Dec.{eqb};
 ghost use lib.ListN.{length};
 ghost use lib.Seq.{sets};
-ghost use Rattle.kinds.specs.Event.{isTaggedType};
 ghost use Rattle.writer.specs.State.{used};
 ghost use Rattle.writer.specs.Calls.{noWords, endIf, decideEvent};
 ghost use Rattle.writer.specs.Plain.{plain, isInnerEnd};
 
-// The begin of a line, a polygon or a triangle inside another geometry.
-pub fn is_quiet(e: Event) -> bool
-    ensures { λ r. ⌜ r ≡ isTaggedType (e .kind) && not (e .tagged) ⌝ }
-{
-    let kind = e.kind;
-    ((kind == Event::LINE_STRING_BEGIN)
-        | (kind == Event::POLYGON_BEGIN)
-        | (kind == Event::TRIANGLE_BEGIN))
-        & !e.tagged
-}
-
+// A begin that sets no type changes nothing.
 pub fn take_quiet(s: State, lent: usize, pools: Lent) -> Wrote
     ensures { λ r. ⌜ r ≡ decideEvent s (plain s noWords) lent pools ⌝ }
 {

@@ -5,7 +5,6 @@ use crate::memory;
 use crate::pair::take_pair;
 use crate::pending::end_of;
 use crate::plain::is_inner_end;
-use crate::plain::is_quiet;
 use crate::plain::take_end;
 use crate::plain::take_quiet;
 use crate::state::State;
@@ -80,7 +79,7 @@ pub fn take_record(
     if Event::XY <= e.kind {
         return take_pair(s, e, lent, pools, xy, z, m, t, tm);
     }
-    if is_quiet(e) {
+    if e.is_quiet() {
         return take_quiet(s, lent, pools);
     }
     if is_inner_end(s.typing, e) {
