@@ -8,18 +8,18 @@ use lib.Dec.{leb, eqb}
 use lib.ListN.{length, take, drop, length-drop}
 use lib.Seq.{take-all}
 use borrow.Author.Tests.{leb-false, eqb-true, eqb-false}
-use Rattle.kinds.specs.declared.geometry.Lent.{Lent}
 use Rattle.store.specs.Lists.{poolsOf, lentOf}
 use Rattle.store.specs.Records.{recordsLent}
 use Rattle.writer.specs.declared.many.Took.{Took}
+use Rattle.writer.specs.declared.state.Pending.{Pending}
 use Rattle.writer.specs.declared.state.State.{State}
 use Rattle.writer.specs.declared.state.Wrote.{Wrote}
-use Rattle.writer.specs.State.{used, Mem, memOf, Outcome, outcome, wrote}
+use Rattle.writer.specs.State.{Mem, memOf, Outcome, outcome, wrote}
 use Rattle.writer.specs.Calls.{eventCall}
 use Rattle.writer.specs.Events.{recordOf, recordsIn, Progress, took, progress, eventsFrom, eventsCall, none-left, went-on, stopped}
-use Rattle.writer.specs.Ready.{Ready, event-ready}
+use Rattle.writer.specs.Ready.{Ready, same-ready, event-ready}
 use Rattle.writer.specs.Refused.{event-unchanged}
-use Rattle.writer.specs.Run.{paired, PairsTaken}
+use Rattle.writer.specs.Run.{withPending, PlainTaken}
 
 -- the bytes from a record's start up to its end, or to the last
 pub record-lent : (bytes : List ℕ) (i n : ℕ) → 64 * i < length bytes → n ≡ cond (leb 64 (length bytes - 64 * i)) 64 (length bytes - 64 * i) → take (64 * i + n - 64 * i) (drop (64 * i) bytes) ≡ recordOf bytes i
@@ -47,9 +47,6 @@ begun bytes s k =
     let all : recordsIn bytes - 0 ≡ recordsIn bytes = omega arith in
     record { within = omega arith; table = refl; pools = refl; rest = ap (λ (n : ℕ). eventsFrom n 0 bytes s k) all }
 
-same-ready : {s s′ : State} {lent lent′ : ℕ} {pools pools′ : Lent} → s ≡ s′ → lent ≡ lent′ → pools ≡ pools′ → Ready s lent pools → Ready s′ lent′ pools′
-same-ready a b c ready = rw (← a, ← b, ← c) ready
-
 module _ {bytes : List ℕ} {s₀ : State} {k₀ : Mem} {taken : ℕ} {s : State} {k : Mem} (so-far : Going bytes s₀ k₀ taken s k) where
   pub at-end : recordsIn bytes ≤ taken → progress (took 0 taken s) k ≡ eventsCall s₀ k₀ bytes
   at-end end = none-left taken bytes s k (omega arith) ∙ so-far .rest
@@ -74,15 +71,15 @@ module _ {bytes : List ℕ} {s₀ : State} {k₀ : Mem} {taken : ℕ} {s : State
         let accepted = ap (λ (o : Outcome). o .wrote .number) (sym is) ∙ ok in
         same-ready (sym here) (ap (λ (n : ℕ). n / 64) (sym table)) (sym pools) (event-ready s k (recordOf bytes taken) accepted)
 
-module _ {bytes : List ℕ} {s₀ : State} {k₀ : Mem} {taken : ℕ} {s : State} {T X E Z M H K : List ℕ} where
-  pub at-pairs : {start run : ℕ} {X′ : List ℕ} → Going bytes s₀ k₀ taken s (memOf T X E Z M H K) → Ready s (recordsLent T) (lentOf (poolsOf X E Z M H K)) → used (s .pending .xy) ≡ start → PairsTaken bytes taken start X run X′
-      → Going bytes s₀ k₀ (taken + run) (paired s run) (memOf T X′ E Z M H K)
-  at-pairs so-far ready at pairs =
+module _ {bytes : List ℕ} {s₀ : State} {k₀ : Mem} {from : ℕ} {s : State} {T X E Z M H K : List ℕ} where
+  pub at-plain : {taken : ℕ} {p : Pending} {X′ Z′ M′ H′ K′ : List ℕ} → Going bytes s₀ k₀ from s (memOf T X E Z M H K) → Ready s (recordsLent T) (lentOf (poolsOf X E Z M H K)) → PlainTaken bytes from (s .pending) X Z M H K taken p X′ Z′ M′ H′ K′
+      → Going bytes s₀ k₀ taken (withPending s p) (memOf T X′ E Z′ M′ H′ K′)
+  at-plain so-far ready run =
       record {
-        within = pairs .within;
+        within = run .within;
         table = so-far .table;
-        pools = (λ i. record { xy = pairs .long i; ends = length E; z = length Z; m = length M; t = length H; tm = length K }) ∙ so-far .pools;
-        rest = pairs .rest s T E Z M H K at ready ∙ so-far .rest;
+        pools = (λ i. record { xy = run .long-xy i; ends = length E; z = run .long-z i; m = run .long-m i; t = run .long-t i; tm = run .long-tm i }) ∙ so-far .pools;
+        rest = run .rest s T E ready ∙ so-far .rest;
       }
 
 -- ---- a call with one whole record comes to what the event comes to

@@ -26,6 +26,9 @@ pub record Ready (s : State) (lent : ℕ) (pools : Lent) : Type 0 where
   pub turn : s .waiting ≡ false
   pub room : Room (s .pending) noWords (recordsUsed s) lent pools
 
+pub same-ready : {s s′ : State} {lent lent′ : ℕ} {pools pools′ : Lent} → s ≡ s′ → lent ≡ lent′ → pools ≡ pools′ → Ready s lent pools → Ready s′ lent′ pools′
+same-ready a b c ready = rw (← a, ← b, ← c) ready
+
 -- a part takes no more words than are pending
 none-or-all : (b : Bool) (n : ℕ) → cond b 0 n ≤ n
 none-or-all true n = omega arith

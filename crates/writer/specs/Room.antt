@@ -29,7 +29,7 @@ pub record Room (p : Pending) (a : Added) (records lent : ℕ) (pools : Lent) : 
   pub words : (n : Lane) → used (wordsIn p n) + more a n ≤ lentIn pools n
   pub fits : Fits p a
 
-room-in : (n lent most : ℕ) → roomIn n lent most ≡ true → (n ≤ lent) × (n ≤ most)
+pub room-in : (n lent most : ℕ) → roomIn n lent most ≡ true → (n ≤ lent) × (n ≤ most)
 room-in n lent most h = let t = both (leb n lent) (leb n most) h in (leb-true n lent (t .0), leb-true n most (t .1))
 
 pub room-of : (p : Pending) (a : Added) (records lent : ℕ) (pools : Lent) → hasRoom p a records lent pools ≡ true → Room p a records lent pools

@@ -20,7 +20,7 @@ fn room_in(n: usize, lent: usize, most: usize) -> bool
     (n <= lent) & (n <= most)
 }
 
-fn lane_room(p: Words, on: bool, n: u32, lent: usize, most: usize) -> bool
+pub fn lane_room(p: Words, on: bool, n: u32, lent: usize, most: usize) -> bool
     requires { ⌜ n ≤ 2 ⌝ }
     ensures { λ r. ⌜ r ≡ roomIn (used p + cond on n 0) lent most ⌝ }
 {

@@ -1,18 +1,18 @@
 use mathlib.Core.Path.{_≡_, sym, ap, _∙_}
 use mathlib.Core.List.{List}
-use Prim.Native.Nat.{ℕ, _+_, _-_, _*_, _/_, _≤_, _<_}
+use Prim.Native.Nat.{ℕ, _-_, _*_, _/_, _<_}
 use native.Mathlib.Omega.{arith}
 use lib.ListN.{length}
 use denote.Ref.{now}
 use borrow.Author.Needs.{needs}
-use Rattle.kinds.specs.Lanes.{xyL}
 use Rattle.kinds.specs.declared.geometry.Lent.{Lent}
 use Rattle.store.specs.Lists.{lentOf}
 use Rattle.store.specs.Records.{recordsLent}
 use Rattle.writer.specs.Calls.{eventCall}
 use Rattle.writer.specs.Events.{recordOf, recordsIn}
-use Rattle.writer.specs.Going.{Going, begun, at-end, at-refused, at-taken, then-ready, at-pairs, record-lent}
+use Rattle.writer.specs.Going.{Going, begun, at-end, at-refused, at-taken, then-ready, at-plain, record-lent}
 use Rattle.writer.specs.Ready.{Ready}
+use Rattle.writer.specs.Run.{ready-room}
 use Rattle.writer.specs.State.{Mem, memOf, outcome}
 use Rattle.writer.proofs.many.events.Statement.{statement}
 use Rattle.writer.proofs.many.events.Tie as tie
@@ -92,27 +92,15 @@ events-spec =
     (λ c. ap (λ (l : Lent). l .tm) (same-pools (c .before .before .before .before .before .before .before .before .before .before .before .before .before .before .before .before) ∙ turn (c .before .before .before .before .before .before .before .before .before .before .before .before .before .before .before .before) .loop .inv .pools))
     (λ c. let taken = c .before .before .before .before .before .before .before .before .before .before .before .before .before .before .before .before in at-refused (turn taken .loop .inv) (more-left (taken .before .before .before .before .before .before .before .before .before .before)) (is taken) (c .if1 .taken))
     (λ c. let test = c .before .before .before .before .before .before .before .before .before .before .before .before .before .before .before .before .before .before .before .before .before .before .before .before .before .before .before in omega (arith, test .loop-test .taken, test .before .before .records-in .ok))
-    (λ c κs. search needs)
     (λ c κs.
-    let taken = c .before .before .before .before .before .before .before .before .before .before .before .before .before .before .before .before .before .before .before in
-    let room = ready taken (c .before .before .before .if1 .left) .room in
-    let at = c .before .used .ensures .0 in
-    (omega (arith, more-left (taken .before .before .before .before .before .before .before .before .before .before)), (omega (arith, room .words xyL, at), omega (arith, room .fits xyL, at))))
-    (λ c. omega (arith, c .before .before .take-pairs .ensures .fits))
-    (λ c. omega (arith, c .before .before .take-pairs .ensures .fits))
-    (λ c. omega (arith, c .before .before .before .take-pairs .ensures .fits, c .before .before .before .before .before .used .ensures .0))
+    let taken = c .before .before .before .before .before .before .before .before .before .before .before .before .before .before .before .before .before .before .before .before .before .before in
+    (omega (arith, more-left (taken .before .before .before .before .before .before .before .before .before .before)), ready-room (taken .take-record .result .state) _ (left taken .pools .ends) _ _ _ _ (ready taken (c .before .before .before .before .before .before .if1 .left))))
+    (λ c. omega (arith, c .before .before .before .before .before .before .before .before .before .before .before .before .before .before .before .before .before .before .before .before .before .before .before .before .before .before .before .before .before .before .before .before .before .before .before .before .before .before .before .before .before .before .before .before .loop-test .taken, c .before .before .before .before .before .before .before .before .before .before .before .take-plain .ensures .begun))
     (λ c.
-    let at = c .before .before .before .before .before .before .before .before .before .before .before .before .before .before .before .before .before .before .before .before .before .before .before .before .before .before .before .before .before .before .before .before .before .before .before in
-    let pairs = c .before .before .before .before .take-pairs in
-    let within : at .loop .taken + 1 + pairs .result ≤ recordsIn (bytes at) = pairs .ensures .within in
-    omega (arith, within, at .before .records-in .ensures, at .before .records-in .ok))
-    (λ c. omega (arith, c .before .before .before .before .before .before .before .before .before .before .before .before .before .before .before .before .before .before .before .before .before .before .before .before .before .before .before .before .before .before .before .before .before .before .loop-test .taken))
-    (λ c.
-    let pairs = c .before .before .before .before in
-    let taken = c .before .before .before .before .before .before .before .before .before .before .before .before .before .before .before .before .before .before .before .before .before .before .before .before in
-    let ok = c .before .before .before .before .before .before .before .before .if1 .left in
+    let taken = c .before .before .before .before .before .before .before .before .before .before .before .before .before .before .before .before .before .before .before .before .before .before .before .before .before .before .before .before .before .before .before .before .before .before in
+    let ok = c .before .before .before .before .before .before .before .before .before .before .before .before .before .before .before .before .before .before .if1 .left in
     let so-far = at-taken (turn taken .loop .inv) (more-left (taken .before .before .before .before .before .before .before .before .before .before)) (is taken) ok (same-table taken) (same-pools taken) in
-    at-pairs so-far (ready taken ok) (sym (pairs .before .before .used .ensures .0)) (pairs .take-pairs .ensures))
+    at-plain so-far (ready taken ok) (c .before .before .before .before .before .before .before .before .before .before .before .take-plain .ensures))
     (λ c. c .before .loop .inv .table)
     (λ c. ap (λ (l : Lent). l .xy) (c .before .loop .inv .pools))
     (λ c. ap (λ (l : Lent). l .ends) (c .before .loop .inv .pools))
