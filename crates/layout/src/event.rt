@@ -1,6 +1,6 @@
 // The 64-byte event record.
-use crate::words::put_head;
-use crate::words::put_u32;
+use crate::words::put_first;
+use crate::words::put_padded;
 use crate::words::put_u64;
 use crate::words::u32_at;
 use crate::words::u64_at;
@@ -36,10 +36,8 @@ pub fn put_event(bytes: &mut [u8], e: Event)
     requires { ⌜ length (now bytes) ≡ 64 ⌝ }
     ensures { λ _. ⌜ now (bytes .exit) ≡ eventBytes e ⌝ }
 {
-    put_head(bytes, e.kind, byte_of(e.tagged), e.present);
-    put_u32(bytes, 4, e.size);
-    put_u32(bytes, 8, e.idx);
-    put_u32(bytes, 12, 0);
+    put_first(bytes, e.kind, byte_of(e.tagged), e.present, e.size);
+    put_padded(bytes, 8, e.idx);
     put_doubles(bytes, e);
 }
 
