@@ -184,3 +184,7 @@ bad-at-end s at h = rw (drop-of-length-le s h)
 pub bad-at-next : (s : List ℕ) (at len : ℕ) → len ≡ charLength (drop at s) → (len ≡ 0 → ⊥) →
     at + firstBad (drop at s) ≡ at + len + firstBad (drop (at + len) s)
 bad-at-next s at len e n = rw (e, bad-later (drop at s) (λ z. n (e ∙ z)), drop-drop (charLength (drop at s)) at s) (omega arith)
+
+pub ascii-at : (s : List ℕ) (at : ℕ) → at < length s → getD s at 0 < 128 → 1 ≡ charLength (drop at s)
+unfolding rowOf
+ascii-at s at within small = sym (char-brief s at 1 within (length-in 0x00 0x80 1 (getD s at 0) refl (omega arith) (omega (arith, small))) (omega arith))

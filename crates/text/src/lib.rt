@@ -11,16 +11,21 @@ pub fn is_utf8(bytes: &[u8]) -> bool
 }
 
 // The place of the first byte that begins no well-formed character, or the length where there is none.
+// Most bytes are ASCII, and go by one test.
 pub fn first_bad(bytes: &[u8]) -> usize
     ensures { λ r. ⌜ r ≡ firstBad (now (bytes .entry)) ⌝ }
 {
     let mut at = 0;
     while at < bytes.len() {
-        let len = char_length(bytes, at);
-        if len == 0 {
-            return at;
+        if bytes[at] < 0x80 {
+            at += 1;
+        } else {
+            let len = char_length(bytes, at);
+            if len == 0 {
+                return at;
+            }
+            at += len;
         }
-        at += len;
     }
     at
 }

@@ -90,7 +90,9 @@ pub fn event(
             state: s,
         };
     }
-    let took = events(s, bytes, table, xy, ends, z, m, t, tm);
+    // A state of its own to hand on, so that the pair above has it in registers.
+    let given = s;
+    let took = events(given, bytes, table, xy, ends, z, m, t, tm);
     let state = took.state;
     Wrote {
         number: took.number,

@@ -4,7 +4,7 @@ use native.Mathlib.Omega.{arith}
 use lib.ListN.{length, drop}
 use borrow.Author.Needs.{needs}
 use Rattle.text.specs.Utf8.{firstBad}
-use Rattle.text.specs.Laws.{char-at-within, bad-here, bad-at-end, bad-at-next}
+use Rattle.text.specs.Laws.{char-at-within, bad-here, bad-at-end, bad-at-next, ascii-at}
 use Rattle.text.proofs.first_bad.Statement.{statement}
 use Rattle.text.proofs.first_bad.Tie as tie
 
@@ -21,24 +21,32 @@ first-bad-spec =
     Inv-loop
     μ-loop
     (λ c. search needs)
-    (λ c κs. search needs)
+    (λ c. search needs)
+    (λ c. search needs)
+    (λ c. omega arith)
     (λ c.
     let here = c .before .before .before in
     let s = here .before .before .args .bytes .now in
     let at = here .loop .at in
-    omega (arith, here .loop .inv .1, bad-here (drop at s) (sym (c .before .char-length .ensures) ∙ c .if1 .taken)))
+    (omega arith, sym (bad-at-next s at 1 (ascii-at s at (omega arith) (c .if1 .taken)) (λ none. omega (arith, none))) ∙ here .loop .inv .1))
+    (λ c κs. search needs)
     (λ c.
-    let here = c .before .before .before in
+    let here = c .before .before .before .before .before in
+    let s = here .before .before .args .bytes .now in
+    let at = here .loop .at in
+    omega (arith, here .loop .inv .1, bad-here (drop at s) (sym (c .before .char-length .ensures) ∙ c .if2 .taken)))
+    (λ c.
+    let here = c .before .before .before .before .before in
     omega (arith, c .before .char-length .ensures, char-at-within (here .before .before .args .bytes .now) (here .loop .at)))
     (λ c.
-    let here = c .before .before .before in
-    omega (arith, c .if1 .left, c .before .char-length .ensures, char-at-within (here .before .before .args .bytes .now) (here .loop .at)))
+    let here = c .before .before .before .before .before in
+    omega (arith, c .if2 .left, c .before .char-length .ensures, char-at-within (here .before .before .args .bytes .now) (here .loop .at)))
     (λ c.
-    let here = c .before .before .before in
+    let here = c .before .before .before .before .before in
     let s = here .before .before .args .bytes .now in
     let at = here .loop .at in
     let char = c .before .char-length in
-    (omega (arith, char .ensures, char-at-within s at), sym (bad-at-next s at (char .result) (char .ensures) (c .if1 .left)) ∙ here .loop .inv .1))
+    (omega (arith, char .ensures, char-at-within s at), sym (bad-at-next s at (char .result) (char .ensures) (c .if2 .left)) ∙ here .loop .inv .1))
     (λ c.
     let here = c .before in
     omega (arith, here .loop .inv .1, bad-at-end (here .before .before .args .bytes .now) (here .loop .at) (c .loop-test .left))))
