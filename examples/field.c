@@ -11,7 +11,7 @@
 #define EVENTS 64
 #define VALUES 8
 
-static uint32_t state[BINTOLAGE_STATE_WORDS];
+static bintolage_state state;
 static uint8_t table[RECORDS * BINTOLAGE_GEOMETRY_BYTES];
 static uint64_t xy[2 * PAIRS];
 static uint32_t ends[PAIRS];
@@ -88,7 +88,7 @@ static void say(uint8_t kind, uint8_t tagged, uint32_t size, uint32_t idx, pair 
     put32(event + 8, idx);
     put64(event + 16, bits_of(p.x));
     put64(event + 24, bits_of(p.y));
-    must("event", bintolage_event(state, event, sizeof event, table, sizeof table, POOLS));
+    must("event", bintolage_event(&state, event, sizeof event, table, sizeof table, POOLS));
 }
 
 static const pair nowhere = {0, 0};
@@ -113,7 +113,7 @@ static void write_field(void)
 
 static void write_property(uint32_t column, uint64_t bits, const char *text)
 {
-    must("property", bintolage_property(state, column, columns[column], bits, (const uint8_t *)text, strlen(text),
+    must("property", bintolage_property(&state, column, columns[column], bits, (const uint8_t *)text, strlen(text),
                                         properties, sizeof properties));
 }
 
@@ -168,7 +168,7 @@ static void print_properties(void)
 {
     uint32_t count;
     uint8_t stopped;
-    must("read_properties", bintolage_read_properties(properties, state[2], 1, columns, sizeof columns, 65536, values,
+    must("read_properties", bintolage_read_properties(properties, state.words[2], 1, columns, sizeof columns, 65536, values,
                                                       sizeof values, &count, &stopped));
     for (uint32_t i = 0; i < count; i++) {
         print_value(values + i * BINTOLAGE_VALUE_BYTES);
@@ -177,14 +177,14 @@ static void print_properties(void)
 
 int main(void)
 {
-    bintolage_start(BINTOLAGE_POLYGON, 0, 0, state);
+    bintolage_start(BINTOLAGE_POLYGON, 0, 0, &state);
     write_field();
     write_property(0, bits_of(1.15), "");
     write_property(1, 3, "");
     write_property(2, 0, "Jensen, Søren");
-    must("finish", bintolage_finish(state, table, sizeof table, POOLS));
+    must("finish", bintolage_finish(&state, table, sizeof table, POOLS));
     print_field();
     print_properties();
-    must("next", bintolage_next(state, table, sizeof table, POOLS));
+    must("next", bintolage_next(&state, table, sizeof table, POOLS));
     return 0;
 }

@@ -15,7 +15,7 @@ static uint8_t stack[STACK_BYTES] __attribute__((aligned(16)));
 static uint8_t *top;
 static ucontext_t outside, inside;
 
-static uint32_t state[BINTOLAGE_STATE_WORDS];
+static bintolage_state state;
 static uint8_t table[BINTOLAGE_LEVELS * BINTOLAGE_GEOMETRY_BYTES];
 static uint64_t xy[64], z[32], m[32], t[32], tm[32];
 static uint32_t ends[32];
@@ -30,16 +30,16 @@ static uint64_t edges[4];
 
 #define POOLS xy, 64, ends, 32, z, 32, m, 32, t, 32, tm, 32
 
-static void start(void) { bintolage_start(BINTOLAGE_POLYGON, 1, 1, state); }
-static void take(void) { bintolage_event(state, event, sizeof event, table, sizeof table, POOLS); }
-static void take_many(void) { bintolage_events(state, event, sizeof event, table, sizeof table, POOLS, &taken); }
-static void property(void) { bintolage_property(state, 0, BINTOLAGE_COLUMN_STRING, 0, text, sizeof text, buffer, sizeof buffer); }
-static void finish(void) { bintolage_finish(state, table, sizeof table, POOLS); }
-static void next(void) { bintolage_next(state, table, sizeof table, POOLS); }
+static void start(void) { bintolage_start(BINTOLAGE_POLYGON, 1, 1, &state); }
+static void take(void) { bintolage_event(&state, event, sizeof event, table, sizeof table, POOLS); }
+static void take_many(void) { bintolage_events(&state, event, sizeof event, table, sizeof table, POOLS, &taken); }
+static void property(void) { bintolage_property(&state, 0, BINTOLAGE_COLUMN_STRING, 0, text, sizeof text, buffer, sizeof buffer); }
+static void finish(void) { bintolage_finish(&state, table, sizeof table, POOLS); }
+static void next(void) { bintolage_next(&state, table, sizeof table, POOLS); }
 static void read_tree(void) { bintolage_read(table, sizeof table, POOLS, 0, 15, records, sizeof records, &count); }
 static void read_properties(void)
 {
-    bintolage_read_properties(buffer, state[2], 1, columns, sizeof columns, 65536, records, sizeof records, &count, &stopped);
+    bintolage_read_properties(buffer, state.words[2], 1, columns, sizeof columns, 65536, records, sizeof records, &count, &stopped);
 }
 static void box(void) { bintolage_box(table, sizeof table, POOLS, 0, edges); }
 
@@ -124,7 +124,7 @@ static long deepest_event(void (*made)(void))
 {
     long most = 0;
     for (int kind = 0; kind < 256; kind++) {
-        bintolage_start(BINTOLAGE_GEOMETRY_COLLECTION, 0, 0, state);
+        bintolage_start(BINTOLAGE_GEOMETRY_COLLECTION, 0, 0, &state);
         memset(event, 0, sizeof event);
         event[0] = BINTOLAGE_GEOMETRY_COLLECTION;
         take();

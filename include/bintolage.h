@@ -5,7 +5,7 @@
  * numbers or texts, and property bytes read back as values. Every function behind these calls is proved to do what its
  * contract says on every input.
  *
- *     cc program.c libterminal.a
+ *     cc program.c libbintolage.a
  *
  * The library has no heap, no variables of its own, and calls nothing. It works in memory that the caller lends for the
  * time of one call. It never blocks, and every call ends. Calls on different memory may run at the same time.
@@ -92,7 +92,6 @@ extern "C" {
 #define BINTOLAGE_PROPERTY_BYTES  65536  /* bytes in a property buffer */
 #define BINTOLAGE_LEVELS             16  /* levels of geometries within geometries, the root being the first */
 
-#define BINTOLAGE_STATE_WORDS        16
 #define BINTOLAGE_EVENT_BYTES        64
 #define BINTOLAGE_GEOMETRY_BYTES     64
 #define BINTOLAGE_VALUE_BYTES        16
@@ -197,28 +196,33 @@ extern "C" {
 /*
  * THE WRITER'S STATE
  *
- * Sixteen words that the caller keeps and lends to every writing call. They may be copied, stored and sent.
+ * Words that the caller keeps and lends to every writing call. They may be copied, stored and sent.
  *     0       declared type + 256 * current type + 65536 * mode + 2^24 * (detect 1, promote 2, waiting 4)
  *     1       how many parts the feature has
  *     2       how many property bytes it has
  *     3       spare, written as 0
  *     4..15   start and count of the pending list in each pool: xy, ends, z, m, t, tm
- * Any sixteen words are accepted as a state; spare bits are not looked at. On a refusal they stay as they were, bit for
- * bit. The property bytes of a feature, of which the caller wants the length, are the first state[2] of the buffer.
+ * Any words are accepted as a state; spare bits are not looked at. On a refusal they stay as they were, bit for bit. The
+ * property bytes of a feature, of which the caller wants the length, are the first words[2] of the buffer.
  */
+#define BINTOLAGE_STATE_WORDS        16
+
+typedef struct bintolage_state {
+    uint32_t words[BINTOLAGE_STATE_WORDS];
+} bintolage_state;
 
 /*
  * The state of a fresh writer. `declared` is the type of the features to come, 0 where it is not known. With `detect` the
  * first type that is seen becomes the declared type; with `promote` a LineString may go into a MultiLineString and a
  * Polygon into a MultiPolygon. For both, 0 is no and all else is yes.
  */
-void bintolage_start(uint8_t declared, uint8_t detect, uint8_t promote, uint32_t state[16]);
+void bintolage_start(uint8_t declared, uint8_t detect, uint8_t promote, bintolage_state *state);
 
 /*
  * Takes one event record. Refused: 11, 15, 5, 12.
  */
 uint8_t bintolage_event(
-    uint32_t state[16],
+    bintolage_state *state,
     const uint8_t *event, size_t event_bytes,
     uint8_t *table, size_t table_bytes,
     uint64_t *xy, size_t xy_words,
@@ -235,7 +239,7 @@ uint8_t bintolage_event(
  * time of a call for each.
  */
 uint8_t bintolage_events(
-    uint32_t state[16],
+    bintolage_state *state,
     const uint8_t *events, size_t events_bytes,
     uint8_t *table, size_t table_bytes,
     uint64_t *xy, size_t xy_words,
@@ -252,7 +256,7 @@ uint8_t bintolage_events(
  * String, Json, DateTime or Binary is given in `text`, and its bits are not looked at. Refused: 15, 16, 11, 6, 12.
  */
 uint8_t bintolage_property(
-    uint32_t state[16],
+    bintolage_state *state,
     uint32_t column, uint8_t type, uint64_t bits,
     const uint8_t *text, size_t text_bytes,
     uint8_t *buffer, size_t buffer_bytes);
@@ -262,7 +266,7 @@ uint8_t bintolage_property(
  * parts, and the root. Refused: 15, 12.
  */
 uint8_t bintolage_finish(
-    uint32_t state[16],
+    bintolage_state *state,
     uint8_t *table, size_t table_bytes,
     const uint64_t *xy, size_t xy_words,
     const uint32_t *ends, size_t ends_words,
@@ -276,7 +280,7 @@ uint8_t bintolage_finish(
  * feature; declared type, current type and mode stay. Refused: 15, 12.
  */
 uint8_t bintolage_next(
-    uint32_t state[16],
+    bintolage_state *state,
     const uint8_t *table, size_t table_bytes,
     uint64_t *xy, size_t xy_words,
     uint32_t *ends, size_t ends_words,

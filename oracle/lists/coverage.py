@@ -7,27 +7,17 @@ Everything is found in the lists themselves, as the programs replay them. The an
 import collections, struct, sys
 
 import differences
-from cases import EVENT, FINISH, NEXT, START
+from cases import BOX, EVENT, EVENTS, FINISH, HEARD, NEXT, PROPERTY, READ, RECORD, SAID, START, TREE, WRITTEN, frames
 from client import store
 
 TYPES = set(range(1, 18)) - {13, 14}
 CHANGES = {(0, 1), (0, 2), (1, 0), (1, 2), (2, 0), (2, 1)}
 USABLE, NO_STOP, TOP = 65536, 65536, 2**32 - 1
-HEARD, SAID, RECORD, BOX = range(4)
 Call = collections.namedtuple("Call", "what number event state")
 Tree = collections.namedtuple("Tree", "declared flags lists events readings")
 Read = collections.namedtuple("Read", "number columns stop data values")
 Written = collections.namedtuple("Written", "number used column kind bits length text")
-Ground = collections.namedtuple("Ground", "sort number rest")
-
-
-def frames(path):
-    data = open(path, "rb").read()
-    at = 0
-    while at < len(data):
-        length, = struct.unpack_from("<I", data, at)
-        yield data[at + 4:at + 4 + length]
-        at += 4 + length
+Stored = collections.namedtuple("Stored", "sort number rest")
 
 
 def numbers(case):
@@ -38,10 +28,11 @@ def rows(path):
     """Rows of calls: a start begins each."""
     found = []
     for case in frames(path):
-        width, what = case[:2]
-        fields = struct.unpack_from("<31" + ("B" if width == 1 else "I"), case, 2)
-        event = case[2 + 31 * width + 8:]
-        call = Call(what, fields[0], event + bytes(max(0, fields[30] - len(event))), fields[10:30])
+        width, what, declared, current, mode, marks = case[:6]
+        fields = struct.unpack_from("<28" + ("B" if width == 1 else "I"), case, 6)
+        parts, used, _, *pending = fields[11:26]
+        state = (declared, marks & 1, marks >> 1 & 1, current, mode, marks >> 2, parts, used, *pending)
+        call = Call(what, fields[0], case[6 + 28 * width + 8:], state)
         if what == START:
             found.append([])
         found[-1].append(call)
@@ -56,12 +47,12 @@ def heads(descriptions):
         descriptions = descriptions[4 + head + 2 * group + tail:]
 
 
-def trees(path):
-    for case in frames(path):
+def trees(cases):
+    for case in cases:
         row = numbers(case)
-        readings = [row[15 + 4 * i:19 + 4 * i] for i in range(row[14])]
-        *lists, events = heads(row[15 + 4 * row[14]:])
-        yield Tree(row[0], row[1], lists, events, readings)
+        readings = [row[24 + 4 * i:28 + 4 * i] for i in range(row[23])]
+        *lists, events = heads(row[24 + 4 * row[23]:])
+        yield Tree(row[1], row[2], lists, events, readings)
 
 
 def lists_of(tree):
@@ -76,12 +67,12 @@ def words_of(events):
     return " ".join(differences.word_of(said[at:at + 64]) for at in range(0, len(said), 64))
 
 
-def properties(path):
+def properties(cases):
     """What was read, and what was written."""
     read, written = [], []
-    for case in frames(path):
+    for case in cases:
         row = numbers(case[:44])
-        if row[0] == 0:
+        if row[0] == READ:
             columns, data, records = case[36:36 + row[6]], case[36 + row[6]:36 + row[6] + row[8]], case[36 + row[6] + row[8]:]
             values = [value for _, value in struct.iter_unpack("<QQ", records)]
             read.append(Read(row[1], list(columns) if row[5] else None, row[7], data, values))
@@ -93,14 +84,16 @@ def properties(path):
 class Lists:
     def __init__(self, crates):
         self.rows = rows(crates + "/writer_cases/stdin")
-        self.trees = list(trees(crates + "/reader_cases/stdin"))
-        self.read, self.written = properties(crates + "/property_cases/stdin")
-        self.ground = [Ground(*numbers(case[:8]), case[8:]) for case in frames(crates + "/ground_cases/stdin")]
+        cases = list(frames(crates + "/cases/stdin"))
+        of = lambda *sorts: [case for case in cases if case[0] in sorts]
+        self.trees = list(trees(of(TREE)))
+        self.read, self.written = properties(of(READ, WRITTEN))
+        self.store = [Stored(*numbers(case[:8]), case[8:]) for case in of(HEARD, SAID, RECORD, BOX)]
         self.calls = [call for row in self.rows for call in row]
 
     def refusals(self):
         given = {call.number for call in self.calls} | {number for tree in self.trees for _, _, number, _ in tree.readings}
-        return given | {case.number for case in self.read + self.written} | {case.number for case in self.ground}
+        return given | {case.number for case in self.read + self.written} | {case.number for case in self.store}
 
     def types_written(self):
         return {call.event[0] % 32 for call in self.calls if call.what == EVENT and call.number == 0 and call.event[0] < 64}
@@ -140,7 +133,7 @@ class Lists:
         return any(case.number == number and where(case) for case in self.written)
 
     def was_laid(self, sort, number, where=lambda rest: True):
-        return any((case.sort, case.number) == (sort, number) and where(case.rest) for case in self.ground)
+        return any((case.sort, case.number) == (sort, number) and where(case.rest) for case in self.store)
 
     def was_called(self, what, number, where=lambda call: True):
         return any(call.what == what and call.number == number and where(call) for call in self.calls)
@@ -211,6 +204,8 @@ def main():
         print(f"{what}: {len(wanted) - len(absent)} of {len(wanted)}")
 
     show("refusal", range(17), lists.refusals())
+    show("number of many events in a call", (0, 5, 11, 12, 15), [call.number for call in lists.calls if call.what == EVENTS])
+    show("number of a property among calls", (0, 6, 11, 12, 15, 16), [call.number for call in lists.calls if call.what == PROPERTY])
     show("type written", TYPES, lists.types_written())
     show("type read", TYPES, lists.types_read())
     show("change of mode", CHANGES, lists.changes())

@@ -1,25 +1,24 @@
 #!/usr/bin/env python3
 """The cases of crates/property_cases: property lists read, and properties written.
 
-    oracle/lists/property.py ORACLE > crates/property_cases/stdin
+    oracle/lists/property.py ORACLE > LIST
 
 ORACLE is the oracle's program, the crate's own Rust. Every list is read by it (request P), and every property that is written, or
 refused for its value or its text, is written by it (request W). From this script's own reading of the paper come only what the oracle
 does not have: 9 for a full log, the usable 65,536 bytes, and on writing 15, 16 and 12. The seed is fixed: the same list comes out every time.
 
 The numbers of a case, by their index; a word takes two.
-  read     0: sort 0, 1: number, 2: count, 3: stopped, 4: log length, 5: has columns, 6: how many, 7: stop column, 8: how many bytes;
+  read     0: sort 4, 1: number, 2: count, 3: stopped, 4: log length, 5: has columns, 6: how many, 7: stop column, 8: how many bytes;
            the column types, the bytes, the log's records after
-  written  0: sort 1, 1: number, 2: used after, 3: waiting, 4: used, 5: column, 6: type, 7: bits (word), 9: buffer length,
+  written  0: sort 5, 1: number, 2: used after, 3: waiting, 4: used, 5: column, 6: type, 7: bits (word), 9: buffer length,
            10: text length; the text, the bytes from `used` on after
 """
 import itertools, random, struct, sys
 
 import differences
-from cases import frame, word
+from cases import READ, WRITTEN, frame, word
 from client import FINISH, Oracle, begin, end, prop, xy
 
-READ, WRITTEN = range(2)
 DONE, LOG_FULL, NO_ROOM, WAITING, COLUMN_TOO_LARGE = 0, 9, 12, 15, 16
 WIDTHS = (1, 1, 1, 2, 2, 4, 4, 8, 8, 4, 8)
 BOOL, FLOAT, DOUBLE, STRING, BINARY = 2, 9, 10, 11, 14

@@ -1,15 +1,16 @@
 #!/usr/bin/env python3
 """The cases of crates/reader_cases: trees, and the events that reading them puts into a log.
 
-    oracle/lists/reader.py ORACLE > crates/reader_cases/stdin
+    oracle/lists/reader.py ORACLE > LIST
 
 ORACLE is the oracle's program, the crate's own Rust. It reads every tree (request R). `Reading` below is this script's own reading of
 the paper. The script stops where the two differ. 9 for a log without room comes from `Reading` alone. The seed is fixed: the same list comes out every time.
 
 A tree is one case, with several readings of it, to logs of several lengths: all expect the first of the same events. The numbers of a
 case, by their index:
-  0: declared type, 1: flags, 2: table length, 3: ends lent, 4: place and count lent of xy, and so on of z, m, t, tm,
-  14: how many readings, 15: each reading (sort, log length, number, count);
+  0: sort 6, 1: declared type, 2: flags, 3: table length, and where it is described, 5: ends lent, and where they are described,
+  7: place and count lent of xy, and where it is described, and so on of z, m, t, tm, 22: where the events are described,
+  23: how many readings, 24: each reading (sort, 6 to 9, log length, number, count);
   the descriptions of the table, the ends, xy, z, m, t, tm, the events
 The bytes of each of these are described as a row of numbers: a head, then a group that is repeated, then a tail. In each turn a
 number of the group grows by its step (0, 1, 2 or 4); so a tree of thousands of records, or of 65,536 pairs, takes a few numbers.
@@ -19,10 +20,9 @@ Whatever was laid out so is compared here with what it stands for, the oracle's 
 import collections, itertools, random, struct, sys
 
 import differences
-from cases import frame
+from cases import BAD, CUT, LARGE, TREE, WHOLE, frame
 from client import Oracle, Store, ev, store
 
-WHOLE, CUT, BAD, LARGE = range(4)
 DONE, XY_ABSENT, PARTS_ABSENT, TYPE_UNKNOWN, NOT_A_CURVE = range(5)
 PAST_LIST, BAD_END, LOG_FULL, BAD_RECORD, TOO_DEEP = 7, 8, 9, 10, 13
 LISTS = ("xy", "ends", "z", "m", "t", "tm", "parts")
@@ -239,9 +239,11 @@ def case(table, pools, declared=0, flags=0, sort=WHOLE, lengths=log_lengths, sha
     rows = dict(table=table + bytes(-len(table) % 4), ends=packed[1], **{LISTS[i]: packed[i] for i in WORD_POOLS}, events=b"".join(said))
     places = list(itertools.accumulate([0] + [len(pools[i]) for i in WORD_POOLS]))
     assert max(len(table) - 262272, places[-1] - 262208, len(pools[1]) - 65540) <= 0
-    lent = [n for place, i in zip(places, WORD_POOLS) for n in (place, len(pools[i]))]
     descriptions = [description(row, *shape.get(name, ())) for name, row in rows.items()]
-    framed = frame(declared, flags, len(table), len(pools[1]), *lent, len(readings), *itertools.chain(*readings), *descriptions)
+    where = itertools.accumulate([24 + 4 * len(readings)] + [len(description) // 4 for description in descriptions])
+    lent = [[len(table)], [len(pools[1])], *[[place, len(pools[i])] for place, i in zip(places, WORD_POOLS)], []]
+    lists = [n for numbers, at in zip(lent, where) for n in (*numbers, at)]
+    framed = frame(TREE, declared, flags, *lists, len(readings), *itertools.chain(*readings), *descriptions)
     assert len(framed) <= 65540
     return framed
 

@@ -1,41 +1,49 @@
 #!/usr/bin/env python3
 """The cases of crates/writer_cases: rows of calls to the geometry writer.
 
-    oracle/lists/writer.py ORACLE > crates/writer_cases/stdin
+    oracle/lists/writer.py ORACLE > LIST
 
-ORACLE is the oracle's program, the crate's own Rust. A row is a start and then events, finishes and nexts, each on
-memory lent as long as the row says at that call. What each call answers and leaves behind is given by `Writer`, this script's own
-reading of the paper's Writing paragraphs. Every row is then written by the oracle too (request W; it is not given what the paper alone
-refuses, with 12 or 15, or with 11 for its length), and this script stops where the two differ: in a number, in the state after a call,
-in a finished tree, record by record and word by word, or in the lists still pending at the row's end. From the paper alone come 12, 15,
-where the pending lists stand, and the words that stay as they were. The seed is fixed: the same list comes out every time. How many
-rows of each sort there are, and how often each number is answered, is written to standard error.
+ORACLE is the oracle's program, the crate's own Rust. A row is a start and then events, properties, finishes and nexts, each on memory
+lent as long as the row says at that call. What each call answers and leaves behind is given by `Writer`, this script's own reading of
+the paper's Writing paragraphs. Every row is then written by the oracle too (request W; it is not given what the paper alone refuses,
+with 12, 15 or 16, or with 11 for its length), and this script stops where the two differ: in a number, in the state after a call, in a
+finished tree, record by record and word by word, in a feature's property bytes, or in the lists still pending at the row's end. From
+the paper alone come 12, 15, 16, where the pending lists stand, and the words that stay as they were. Each row is then given again, with
+its events many in a call, up to the first that is refused and then on from the one behind it, and here and there with a tail that is
+no whole record: the same states must come of it. The seeds are fixed: the same list comes out every time. How many rows of each sort
+there are, and how often each number is answered, is written to standard error.
 
-A case has a head of two bytes, numbers, a checksum of eight bytes, and the event's bytes without the zeros at their end.
-  head     how many bytes each number has, 1 or 4; what is called: 0 start, 1 event, 2 finish, 3 next
-  numbers  0: number, 1: how often the event is given, 2: lent records, 3: lent bytes after them, 4: lent of each pool,
-           10: state after, 30: length of the event
-  state    declared, detect, promote, current, mode, waiting, parts, properties, then start and count of what is pending in each pool
-A start's lent lengths are the row's memory: its canaries, and the checksums of all later calls, go as far.
+A case has a head of two bytes, the state's first word, numbers, a checksum of eight bytes, and what the call is given: an event, or
+events, or a property's value (a word) and its text.
+  head     how many bytes each number has, 1 or 4; what is called: 0 start, 1 event, 2 events, 3 property, 4 finish, 5 next
+  state    its first word: declared type, current type, mode, marks (1 detect, 2 promote, 4 waiting)
+  numbers  0: number, 1: how many events are taken of many, 2: how often the call is made, 3: lent records, 4: lent bytes after them,
+           5: lent of each pool, 11: the other words of the state after, 26: column, 27: type
+A property's lent bytes are those of its buffer; where the feature has no property bytes yet, canaries are laid down in it before the
+call. A start lays them down in all that it is lent. The checksum is that of all that is lent, after the call.
 """
 import collections, copy, itertools, random, struct, sys
 
 import differences
-from cases import EVENT, FINISH, NEXT, START, frame, word
-from client import FINISH as FINISH_ITEM, Oracle, begin, end, ev, store
+from cases import EVENT, EVENTS, FINISH, NEXT, PROPERTY, START, canary, canary_end, canary_word, frame, word
+from client import FINISH as FINISH_ITEM, Oracle, begin, end, ev, prop, store
 
-DONE, MIXED, MALFORMED, NO_ROOM, NOT_ITS_TURN = 0, 5, 11, 12, 15
+DONE, MIXED, NOT_UTF8, MALFORMED, NO_ROOM, NOT_ITS_TURN, COLUMN_TOO_LARGE = 0, 5, 6, 11, 12, 15, 16
 NORMAL, COLLECTION, FORCE_MULTI = range(3)
 MODES = ("Normal", "GeometryCollection", "ForceMulti")
 POOLS = ("xy", "ends", "z", "m", "t", "tm")
 XY, ENDS = 0, 1
-USABLE_RECORDS, USABLE = 4096, (131072, 65536, 65536, 65536, 65536, 65536)
+USABLE_RECORDS, USABLE, USABLE_BYTES = 4096, (131072, 65536, 65536, 65536, 65536, 65536), 65536
+WIDTHS, BOOL, STRING, BINARY = (1, 1, 1, 2, 2, 4, 4, 8, 8, 4, 8), 2, 11, 14
+BUFFER = 1024
 TYPES = sorted(set(range(1, 18)) - {13, 14})
 TAGGED_TYPES = (2, 3, 17)
 KINDS = TYPES + [kind + 32 for kind in TYPES] + [64, 65]
 ALL_BITS = 2**64 - 1
 oracle = Oracle(sys.argv[1])
 pick = random.Random(3)
+# What is added to the rows goes by a source of its own, so that the rows stay as they are.
+added = random.Random(4)
 
 
 # The writer, as the paper has it.
@@ -56,14 +64,16 @@ class Writer:
     def __init__(self, declared, detect, promote, held):
         self.declared, self.detect, self.promote = declared, detect, promote
         self.current, self.mode, self.waiting, self.parts = 0, NORMAL, 0, 0
-        self.start, self.count = [0] * 6, [0] * 6
-        self.table = bytearray(i % 251 for i in range(64 * held[0] + held[1]))
-        self.pools = [[0xC0DE << 48 | i for i in range(n)] for n in held[2:]]
-        self.pools[ENDS] = [0xC0DE << 16 | i % 65536 for i in range(held[2 + ENDS])]
+        self.start, self.count, self.properties = [0] * 6, [0] * 6, 0
+        self.table = bytearray(map(canary, range(64 * held[0] + held[1])))
+        self.pools = [list(map(canary_end if pool == ENDS else canary_word, range(n))) for pool, n in enumerate(held[2:])]
+        self.buffer = bytearray()
 
     def state(self):
+        """The bytes of the first word, and the other words."""
+        marks = self.detect | self.promote << 1 | self.waiting << 2
         pending = [n for pair in zip(self.start, self.count) for n in pair]
-        return [self.declared, self.detect, self.promote, self.current, self.mode, self.waiting, self.parts, 0, *pending]
+        return bytes([self.declared, self.current, self.mode, marks]), [self.parts, self.properties, 0, *pending]
 
     def used(self):
         """Of the table's records and of each pool's words."""
@@ -134,6 +144,34 @@ class Writer:
         self.declared, self.current, self.mode = typing
         return DONE
 
+    def events(self, records, lent):
+        """The number, and how many records are taken. A rest that is no whole record is an event too, and malformed."""
+        starts = range(0, len(records), 64)
+        for taken, at in enumerate(starts):
+            number = self.event(records[at:at + 64], lent)
+            if number != DONE:
+                return number, taken
+        return DONE, len(starts)
+
+    def property(self, column, kind, bits, text, lent):
+        if self.properties == 0:
+            self.buffer = bytearray(map(canary, range(BUFFER)))
+        if self.waiting:
+            return NOT_ITS_TURN
+        if column > 65535:
+            return COLUMN_TOO_LARGE
+        if kind > BINARY or kind < STRING and bits >= (2 if kind == BOOL else 256 ** WIDTHS[kind]):
+            return MALFORMED
+        if STRING <= kind < BINARY and not is_utf8(text):
+            return NOT_UTF8
+        value = bits.to_bytes(WIDTHS[kind], "little") if kind < STRING else struct.pack("<I", len(text)) + text
+        laid = struct.pack("<H", column) + value
+        if self.properties + len(laid) > min(lent, USABLE_BYTES):
+            return NO_ROOM
+        self.buffer[self.properties:self.properties + len(laid)] = laid
+        self.properties += len(laid)
+        return DONE
+
     def put_part(self, number):
         """The pending lists as a record; they are pending no longer."""
         kept = [count > (1 if pool == ENDS else 0) or pool == XY for pool, count in enumerate(self.count)]
@@ -165,17 +203,30 @@ class Writer:
             return NO_ROOM
         for pool, start, count in zip(self.pools, self.start, self.count):
             pool[:count] = pool[start:start + count]
-        self.start, self.parts, self.waiting = [0] * 6, 0, 0
+        self.start, self.parts, self.waiting, self.properties = [0] * 6, 0, 0, 0
         return DONE
 
-    def checksum(self):
-        mix = 1
-        for n in itertools.chain(self.table, *self.pools):
-            mix ^= n
-            mix ^= mix << 13 & ALL_BITS
-            mix ^= mix >> 7
-            mix ^= mix << 17 & ALL_BITS
-        return mix
+    def checksum(self, lent):
+        pools = [pool[:n] for pool, n in zip(self.pools, lent[2:])]
+        return checksum(itertools.chain(self.table[:64 * lent[0] + lent[1]], *pools))
+
+
+def is_utf8(text):
+    try:
+        text.decode()
+        return True
+    except UnicodeDecodeError:
+        return False
+
+
+def checksum(words):
+    mix = 1
+    for n in words:
+        mix ^= n
+        mix ^= mix << 13 & ALL_BITS
+        mix ^= mix >> 7
+        mix ^= mix << 17 & ALL_BITS
+    return mix
 
 
 # A row: its calls are made on the writer, laid out as cases, and given to the oracle.
@@ -189,18 +240,24 @@ counted = collections.Counter()
 class Row:
     def __init__(self, declared, detect=0, promote=0, held=HELD):
         self.writer, self.held, self.cases = Writer(declared, detect, promote, held), held, []
-        self.items, self.answers, self.trees = [], [], []
+        # What is asked of the oracle, and what it is to answer; and each call, with the state after it.
+        self.items, self.answers, self.trees, self.property_bytes, self.calls = [], [], [], [], []
         self.counted = collections.Counter()
         self.typing = dict(declared=declared, detect=detect, promote=promote)
         self.lay_out(START, DONE, held)
 
-    def lay_out(self, what, number, lent, event=b"", times=1):
-        numbers = [number, times, *lent, *self.writer.state(), len(event)]
+    def lay_out(self, what, number, lent, *given, taken=0, times=1, column=0, kind=0, sum=None):
+        head, state = self.writer.state()
+        numbers = [number, taken, times, *lent, *state, column, kind]
         width = 4 if max(numbers) > 255 else 1
         laid = b"".join(n.to_bytes(width, "little") for n in numbers)
-        self.cases.append(frame(bytes([width, what]), laid, word(self.writer.checksum()), event.rstrip(b"\0")))
+        sum = self.writer.checksum(lent) if sum is None else sum
+        self.cases.append(frame(bytes([width, what]), head, laid, word(sum), *given))
         self.counted[what, number] += 1
         return number
+
+    def called(self, *call):
+        self.calls.append((call, self.writer.state()))
 
     def event(self, event, lent=None, times=1):
         lent = lent or self.held
@@ -208,11 +265,28 @@ class Row:
             number = self.writer.event(event, lent)
             if not self.writer.waiting and len(event) == 64 and number != NO_ROOM:
                 self.ask(event, number)
-        return self.lay_out(EVENT, number, lent, event, times)
+        self.called(EVENT, lent, event, times)
+        return self.lay_out(EVENT, number, lent, event, times=times)
 
     def events(self, events):
         for event in events:
             self.event(event)
+
+    def many(self, records, lent, times=1):
+        """Records in one call, so many times over."""
+        for _ in range(times):
+            number, taken = self.writer.events(records, lent)
+        self.lay_out(EVENTS, number, lent, records, taken=taken, times=times)
+        return taken
+
+    def property(self, column, kind, bits=0, text=b"", lent=BUFFER):
+        number = self.writer.property(column, kind, bits, text, lent)
+        if number not in (NOT_ITS_TURN, COLUMN_TOO_LARGE, NO_ROOM):
+            self.ask(prop(column, kind, bits, text), number)
+        self.called(PROPERTY, column, kind, bits, text, lent)
+        bytes_lent = (lent // 64, lent % 64, 0, 0, 0, 0, 0, 0)
+        left = checksum(self.writer.buffer[:lent])
+        return self.lay_out(PROPERTY, number, bytes_lent, word(bits), text, column=column, kind=kind, sum=left)
 
     def finish(self, lent=None):
         number = self.writer.finish(lent or self.held)
@@ -220,32 +294,88 @@ class Row:
             self.ask(FINISH_ITEM, number)
             lists = [pool[:start] for pool, start in zip(self.writer.pools, self.writer.start)]
             self.trees.append((bytes(self.writer.table[:64 * self.writer.parts + 64]), lists))
+            self.property_bytes.append(bytes(self.writer.buffer[:self.writer.properties]))
+        self.called(FINISH, lent)
         return self.lay_out(FINISH, number, lent or self.held)
 
     def next(self, lent=None):
-        return self.lay_out(NEXT, self.writer.next(lent or self.held), lent or self.held)
+        number = self.writer.next(lent or self.held)
+        self.called(NEXT, lent)
+        return self.lay_out(NEXT, number, lent or self.held)
 
     def feature(self, events):
         self.events(events)
+        if added.random() < 0.3:
+            some_property(self)
         self.finish()
         self.next()
 
     def ask(self, item, number):
         """What the oracle is to answer. Its finish is a finish and a next."""
         writer = self.writer
-        parts = 0 if item == FINISH_ITEM else writer.parts
+        parts, properties = (0, 0) if item == FINISH_ITEM else (writer.parts, writer.properties)
         self.items.append(item)
-        self.answers.append((number, [writer.declared, writer.current, MODES[writer.mode], parts, *writer.count]))
+        self.answers.append((number, [writer.declared, writer.current, MODES[writer.mode], parts, *writer.count, properties]))
 
     def done(self):
         answer = oracle.write(self.items, **self.typing)
-        states = [[state[name] for name in ("declared", "current", "mode", "parts", *POOLS)] for state in answer.states]
+        names = ("declared", "current", "mode", "parts", *POOLS, "properties")
+        states = [[state[name] for name in names] for state in answer.states]
         assert self.answers == list(zip(answer.numbers, states)), self.typing
         assert self.trees == [(feature.tree.table, feature.tree.pools) for feature in answer.features], self.typing
+        assert self.property_bytes == [feature.properties for feature in answer.features], self.typing
         pending = zip(self.writer.pools, self.writer.start, self.writer.count)
         assert answer.pending.pools == [pool[start:start + count] for pool, start, count in pending], self.typing
         counted.update(self.counted)
-        return self.cases
+        return self.cases + self.again()
+
+    def again(self):
+        """The cases of the same calls, with the events many in a call: as many as are lent the same, up to some number."""
+        row = Row(**self.typing, held=self.held)
+        together = Together(row)
+        for (what, *given), state in self.calls:
+            if what == EVENT:
+                together.add(*given)
+                continue
+            together.give()
+            if what == PROPERTY:
+                row.property(*given)
+            else:
+                (row.finish if what == FINISH else row.next)(*given)
+            assert row.writer.state() == state, self.typing
+        together.give()
+        assert row.writer.state() == self.writer.state() and row.writer.pools == self.writer.pools, self.typing
+        counted.update(row.counted)
+        return row.cases
+
+
+class Together:
+    """Events that are still to be given to a row, many in a call."""
+
+    def __init__(self, row):
+        self.row, self.events, self.lent, self.most = row, [], None, 0
+
+    def add(self, lent, event, times):
+        if self.events and (lent != self.lent or len(self.events) == self.most or len(self.events[-1]) < 64):
+            self.give()
+        if not self.events:
+            self.lent, self.most = lent, added.randrange(1, 25)
+        if times > 1:
+            self.give()
+            for records, turns in ((64, times // 64), (times % 64, 1)):
+                if records * turns:
+                    self.row.many(event * records, lent, turns)
+        elif 0 < len(event) <= 64:
+            # One that is longer would be an event and a rest, and none at all is no event.
+            self.events.append(event)
+
+    def give(self):
+        """A call ends with the first that is refused: the next one begins behind it."""
+        while self.events:
+            whole = len(self.events[-1]) == 64
+            tail = added.choice([b"", b"", b"", b"", b"\x40", self.events[0][:63], bytes(added.randrange(1, 64))]) if whole else b""
+            taken = self.row.many(b"".join(self.events) + tail, self.lent)
+            self.events = self.events[taken + 1:]
 
 
 # Events: well nested, wild and malformed.
@@ -308,6 +438,27 @@ def malformed_event():
     return bytes(event)
 
 
+TEXTS = [text.encode() for text in ("", "a", "plough", "äöü €", "\U0010ffff")] + [b"\xff", b"\xc3", b"\xed\xa0\x80", b"a\x80"]
+
+
+def some_property(row):
+    """A property of any type, well given as a rule, to a buffer that is long enough as a rule."""
+    kind = added.randrange(15)
+    bits = added.choice([0, 1, added.getrandbits(8 * WIDTHS[kind]) if kind < STRING else added.getrandbits(64)])
+    column, lent = added.randrange(65536), BUFFER
+    how = added.randrange(12)
+    if how == 0:
+        column = added.choice([65535, 65536, 2**32 - 1])
+    elif how == 1:
+        kind = added.choice([15, 16, 255])
+    elif how == 2:
+        bits = added.choice([2, 256, 2**63, 2**64 - 1])
+    elif how == 3:
+        lent = min(row.writer.properties + added.randrange(12), BUFFER)
+    text = added.choice(TEXTS if added.random() < 0.5 else TEXTS[:5])
+    row.property(column, kind, bits, text, lent)
+
+
 # Rows, by sort.
 
 SWITCHES = list(itertools.product((0, 1), repeat=2))
@@ -359,6 +510,8 @@ def wild_rows(count, calls, tight):
         row = Row(pick.choice([0, 0, 0, 7, 7, 5, 6, pick.randrange(18)]), pick.randrange(2), pick.randrange(2))
         for _ in range(calls):
             lent = lent_about(row) if pick.random() < tight else None
+            if added.random() < 0.1:
+                some_property(row)
             chance = pick.random()
             if chance < (0.5 if row.writer.waiting else 0.02):
                 row.next(lent)
@@ -397,6 +550,30 @@ def order_rows():
         row.finish(short if cut else None)
         row.next(short if cut else None)
         row.next()
+        yield row
+
+
+def property_rows():
+    """Every set of reasons to refuse a property, of a number and of a text, before and after one that is taken; and a full buffer."""
+    for kind, (waiting, column, malformed, not_utf8, cut) in itertools.product((0, 10, STRING, BINARY), itertools.product((0, 1), repeat=5)):
+        row = Row(1)
+        row.events([begin(1), pair(), end(1)])
+        row.property(1, 1, 7)
+        if waiting:
+            row.finish()
+        row.property(65536 if column else 65535, 15 if malformed else kind, 1, b"\xff" if not_utf8 else b"ok", 4 if cut else BUFFER)
+        row.property(2, 1, 9)
+        row.finish()
+        row.next()
+        row.property(3, kind, 1, b"ok")
+        yield row
+    for size in (BUFFER - 6, BUFFER - 7, BUFFER - 9):
+        row = Row(1)
+        for _ in range(2):
+            row.property(0, BINARY, 0, added.randbytes(size))
+            row.property(1, 2, 1)
+            row.property(1, 4, 1)
+            row.feature([begin(1), pair(), end(1)])
         yield row
 
 
@@ -517,13 +694,13 @@ def limit_rows():
 def main():
     sorts = dict(nested=nested_rows(), types=type_rows(), declared=other_declared_rows(), wild=wild_rows(350, 30, 0),
                  tight=wild_rows(250, 30, 0.3), leftovers=leftover_rows(), order=order_rows(), room=room_rows(), bench=bench_rows(),
-                 limits=limit_rows(), differences=difference_rows())
+                 limits=limit_rows(), differences=difference_rows(), properties=property_rows())
     for name, rows in sorts.items():
         laid = [row.done() for row in rows]
         sys.stdout.buffer.write(b"".join(itertools.chain(*laid)))
         print(name, len(laid), "rows,", sum(map(len, laid)), "cases", file=sys.stderr)
     for (what, number), count in sorted(counted.items()):
-        print(("start", "event", "finish", "next")[what], "answered", number, count, file=sys.stderr)
+        print(("start", "event", "events", "property", "finish", "next")[what], "answered", number, count, file=sys.stderr)
 
 
 main()

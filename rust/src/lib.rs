@@ -5,21 +5,21 @@
 //! Rust's types. It has no heap and no `std`: all memory is lent by the caller.
 //!
 //! [`Writer`] holds the lent memory of one feature. [`Tree::read`], [`Tree::bbox`] and [`read_properties`] read. `State`
-//! is what a writer keeps between calls, as sixteen words that may be stored or sent. [`link`] has the bare calls.
+//! is what a writer keeps between calls, as words that may be stored or sent. [`bare`] has the calls with their
+//! numbers, [`link`] as C sees them.
 #![no_std]
 
+#[rustfmt::skip] // a pointer and its count on one line
+pub mod bare;
 pub mod column_type;
 pub mod event;
 pub mod geometry_type;
 #[rustfmt::skip] // a pointer and its count on one line
 pub mod link;
 mod memory;
-#[rustfmt::skip] // a pointer and its count on one line
 mod properties;
 mod refusal;
-#[rustfmt::skip] // a pointer and its count on one line
 mod state;
-#[rustfmt::skip] // a pointer and its count on one line
 mod tree;
 pub mod usable;
 mod value;
@@ -29,7 +29,7 @@ pub use event::Event;
 pub use memory::{Memory, Tree};
 pub use properties::{read_properties, PropertiesRead};
 pub use refusal::Refusal;
-pub use state::{State, Taken};
+pub use state::{State, StateWords, Taken};
 pub use tree::{Boxed, Read};
 pub use value::{Value, ValueRecord};
 pub use writer::Writer;

@@ -1,10 +1,12 @@
 //! The library's calls as C sees them: a list is a pointer and a count of elements. `include/bintolage.h` says what each asks
 //! of its caller.
+use crate::StateWords;
+
 extern "C" {
-    pub fn bintolage_start(declared: u8, detect: u8, promote: u8, state: *mut u32);
+    pub fn bintolage_start(declared: u8, detect: u8, promote: u8, state: *mut StateWords);
 
     pub fn bintolage_event(
-        state: *mut u32,
+        state: *mut StateWords,
         event: *const u8, event_bytes: usize,
         table: *mut u8, table_bytes: usize,
         xy: *mut u64, xy_words: usize,
@@ -16,7 +18,7 @@ extern "C" {
     ) -> u8;
 
     pub fn bintolage_events(
-        state: *mut u32,
+        state: *mut StateWords,
         events: *const u8, events_bytes: usize,
         table: *mut u8, table_bytes: usize,
         xy: *mut u64, xy_words: usize,
@@ -29,14 +31,14 @@ extern "C" {
     ) -> u8;
 
     pub fn bintolage_property(
-        state: *mut u32,
+        state: *mut StateWords,
         column: u32, kind: u8, bits: u64,
         text: *const u8, text_bytes: usize,
         buffer: *mut u8, buffer_bytes: usize,
     ) -> u8;
 
     pub fn bintolage_finish(
-        state: *mut u32,
+        state: *mut StateWords,
         table: *mut u8, table_bytes: usize,
         xy: *const u64, xy_words: usize,
         ends: *const u32, ends_words: usize,
@@ -47,7 +49,7 @@ extern "C" {
     ) -> u8;
 
     pub fn bintolage_next(
-        state: *mut u32,
+        state: *mut StateWords,
         table: *const u8, table_bytes: usize,
         xy: *mut u64, xy_words: usize,
         ends: *mut u32, ends_words: usize,

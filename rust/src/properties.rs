@@ -1,5 +1,4 @@
-use crate::link;
-use crate::Refusal;
+use crate::{bare, Refusal};
 
 /// What a reading of property bytes came to: the log's first `count` records are values, refused or not.
 #[derive(Clone, Copy, Debug, PartialEq, Eq)]
@@ -13,19 +12,8 @@ pub struct PropertiesRead {
 /// Reads property bytes as value records from the log's start. `columns` has each column's type; without it nothing is read.
 /// The reading ends after the first value of the column `stop`. Refused: 2, 14, 6, 9.
 pub fn read_properties(bytes: &[u8], columns: Option<&[u8]>, stop: Option<u16>, log: &mut [u8]) -> PropertiesRead {
-    let types = columns.unwrap_or(&[]);
-    let mut count = 0;
-    let mut stopped = 0;
-    // SAFETY: every pointer and count is a slice's, and what is written is borrowed by `&mut`.
-    let number = unsafe {
-        link::bintolage_read_properties(
-            bytes.as_ptr(), bytes.len(),
-            columns.is_some() as u8,
-            types.as_ptr(), types.len(),
-            stop.map_or(65_536, u32::from),
-            log.as_mut_ptr(), log.len(),
-            &mut count, &mut stopped,
-        )
-    };
+    let (mut count, mut stopped) = (0, 0);
+    let stop = stop.map_or(65_536, u32::from);
+    let number = bare::read_properties(bytes, columns, stop, log, &mut count, &mut stopped);
     PropertiesRead { answer: Refusal::of_properties(number), count: count as usize, stopped: stopped == 1 }
 }

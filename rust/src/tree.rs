@@ -1,5 +1,4 @@
-use crate::link;
-use crate::{Refusal, Tree};
+use crate::{bare, Refusal, Tree};
 
 /// What a reading came to: the log's first `count` records are events, refused or not.
 #[derive(Clone, Copy, Debug, PartialEq, Eq)]
@@ -23,41 +22,14 @@ impl Tree<'_> {
     /// which of z, m, t and tm are wanted; with any, every pair is a coordinate. Refused: 1, 2, 3, 4, 7, 8, 9, 10, 13.
     pub fn read(&self, declared: u8, flags: u8, log: &mut [u8]) -> Read {
         let mut count = 0;
-        // SAFETY: every pointer and count is a slice's, and what is written is borrowed by `&mut`.
-        let number = unsafe {
-            link::bintolage_read(
-                self.table.as_ptr(), self.table.len(),
-                self.xy.as_ptr(), self.xy.len(),
-                self.ends.as_ptr(), self.ends.len(),
-                self.z.as_ptr(), self.z.len(),
-                self.m.as_ptr(), self.m.len(),
-                self.t.as_ptr(), self.t.len(),
-                self.tm.as_ptr(), self.tm.len(),
-                declared, flags,
-                log.as_mut_ptr(), log.len(),
-                &mut count,
-            )
-        };
+        let number = bare::read(*self, declared, flags, log, &mut count);
         Read { answer: Refusal::of(number), count: count as usize }
     }
 
     /// The box around the xy list that record `n` itself has. Refused: 10.
     pub fn bbox(&self, n: u32) -> Boxed {
         let mut edges = [0; 4];
-        // SAFETY: every pointer and count is a slice's, and four words are lent for the edges.
-        let number = unsafe {
-            link::bintolage_box(
-                self.table.as_ptr(), self.table.len(),
-                self.xy.as_ptr(), self.xy.len(),
-                self.ends.as_ptr(), self.ends.len(),
-                self.z.as_ptr(), self.z.len(),
-                self.m.as_ptr(), self.m.len(),
-                self.t.as_ptr(), self.t.len(),
-                self.tm.as_ptr(), self.tm.len(),
-                n,
-                edges.as_mut_ptr(),
-            )
-        };
+        let number = bare::bbox(*self, n, &mut edges);
         let [least_x, least_y, greatest_x, greatest_y] = edges.map(f64::from_bits);
         Boxed { answer: Refusal::of(number), least_x, least_y, greatest_x, greatest_y }
     }

@@ -8,6 +8,9 @@ pub const PROPERTY_BYTES: usize = 65_536;
 /// Levels of geometries within geometries, the root being the first.
 pub const LEVELS: usize = 16;
 
+/// How many words a writer's state has.
+pub const STATE_WORDS: usize = 16;
+
 /// How many bytes a record of each kind has.
 pub const EVENT_BYTES: usize = 64;
 pub const GEOMETRY_BYTES: usize = 64;

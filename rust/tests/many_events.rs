@@ -1,5 +1,6 @@
 //! Events given many in a call: as event after event, up to the first that is refused.
 mod common;
+use bintolage::usable::STATE_WORDS;
 use bintolage::{event, geometry_type, Event, Refusal, State, Taken};
 use common::*;
 
@@ -81,7 +82,7 @@ fn a_tail_that_is_no_whole_record_is_malformed() {
 
 #[test]
 fn no_event_changes_no_word_of_any_state() {
-    let words = [0xFFFF_FFFF; 16];
+    let words = [0xFFFF_FFFF; STATE_WORDS];
     let mut state = State::from_words(words);
     let mut room = Room::of(1, 1);
     assert_eq!(state.events(&[], &mut room.memory()), Taken { answer: Ok(()), count: 0 });

@@ -1,6 +1,6 @@
-//! A writer's state is its sixteen words: kept, copied and taken up again at any place.
+//! A writer's state is its words: kept, copied and taken up again at any place.
 mod common;
-use bintolage::{column_type, geometry_type, Event, Refusal, State, Value, Writer};
+use bintolage::{column_type, geometry_type, Event, Refusal, State, StateWords, Value, Writer};
 use common::{framed, pairs, polygon, Room};
 
 #[test]
@@ -41,7 +41,7 @@ fn any_words_are_a_state_and_a_refusal_leaves_each_bit() {
     let mut room = Room::of(2, 8);
     let mut word = 1u32;
     for _ in 0..2_000 {
-        let words: [u32; 16] = core::array::from_fn(|_| {
+        let words: StateWords = core::array::from_fn(|_| {
             word = word.wrapping_mul(1_664_525).wrapping_add(1_013_904_223);
             word
         });

@@ -1,6 +1,5 @@
 pub mod Box
 pub mod Doubles
-pub mod Geometry
 pub mod Laws
 pub mod Outcomes
 pub mod Pairs

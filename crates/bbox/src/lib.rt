@@ -1,8 +1,4 @@
 // Boxes over words that are doubles as bit patterns.
-mod geometry;
-
-pub use geometry::Boxed;
-pub use geometry::box_at;
 ghost use mathlib.Core.Path.{_≡_};
 ghost use lib.Ieee.{binary64, nanBits};
 ghost use Rattle.bbox.specs.Box.{least, greatest, moved, beginning, double, widen, boxFrom, bitsOf};

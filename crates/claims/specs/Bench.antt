@@ -7,26 +7,27 @@ use Prim.Native.Nat.{ℕ}
 use lib.ListN.{replicate}
 use Rattle.laws.specs.Script.{Script, stop, say, _⨟_, out, run}
 use Rattle.laws.specs.Framed.{framed}
-use Rattle.layout.specs.Geometry.{geometryOf, soundGeometry, readGeometry}
+use Rattle.geometry_layout.specs.Geometry.{geometryOf, soundGeometry, readGeometry}
 use Rattle.kinds.specs.Event.{beginE, endE, xyE}
 use Rattle.kinds.specs.declared.event.Event.{Event}
 use Rattle.store.specs.Lists.{Rec, poolsOf, recordWith}
 use Rattle.store.specs.Log.{events}
 use Rattle.store.specs.Records.{hasRecord, recordIn, listsIn, recordAt}
-use Rattle.lines.specs.Coords.{pairS, coordsS, betweenS}
+use Rattle.coords.specs.Coords.{pairS, coordsS, betweenS}
 use Rattle.lines.specs.Lines.{stretchS, linesS, flatO, flatS, ringsS, stretchesS, polygonS, multiLineS, pointS}
 use Rattle.reader.specs.Reading.{spanS, partsS, kindS, geometryS, rootS, readS}
 use Rattle.reader.specs.Examples.{noFlags}
-use Rattle.props.specs.Reading.{reading, values}
-use Rattle.props.specs.Examples as Properties
-use Rattle.writer.specs.State.{Mem}
-use Rattle.writer.specs.Calls.{started, eventCall}
-use Rattle.written.specs.Bench.{line, lines, polygon, two, three, four, rec, root}
-use Rattle.written.specs.BenchCalls as Called
-use Rattle.written.specs.BenchCalls.{lent, Makes}
-use Rattle.written.specs.Feature.{finishedMem}
-use Rattle.written.specs.Tree.{Holds}
-use Rattle.format.specs.Told.{told}
+use Rattle.property_reader.specs.Reading.{reading}
+use Rattle.store.specs.Values.{values}
+use Rattle.properties.specs.Examples as Properties
+use Rattle.writing.specs.State.{Mem}
+use Rattle.writing.specs.Calls.{started, eventCall}
+use Rattle.writer_model.specs.Bench.{line, lines, polygon, two, three, four, rec, root}
+use Rattle.writer_model.specs.BenchCalls as Called
+use Rattle.writer_model.specs.BenchCalls.{blank, Makes}
+use Rattle.writer_model.specs.Feature.{finishedMem}
+use Rattle.writer_model.specs.Tree.{Holds}
+use Rattle.geometry.specs.Told.{told}
 
 -- every call is accepted, the finished tree is t, and reading it under the declared type says s
 abbrev Gives : ℕ → Bool → Bool → Mem → List Event → List Rec → Script Event → Type 0
@@ -70,23 +71,23 @@ module _ (get : ℕ → Option Rec) where
 
 -- ---- the table
 -- B1. Polygon, one ring of 4 pairs: 8 words, no ends.
-pub b1 : Gives 3 false false (lent 1 8 1) (polygon (four ∷ [])) (rec 0 (1 ∷ 2 ∷ 3 ∷ 4 ∷ 5 ∷ 6 ∷ 1 ∷ 2 ∷ []) none ∷ []) (told (polygon (four ∷ [])))
+pub b1 : Gives 3 false false (blank 1 8 1) (polygon (four ∷ [])) (rec 0 (1 ∷ 2 ∷ 3 ∷ 4 ∷ 5 ∷ 6 ∷ 1 ∷ 2 ∷ []) none ∷ []) (told (polygon (four ∷ [])))
 b1 = (Called.b1-called, b1-says _ (Called.b1-called .1))
 
 -- B2. Two rings of 4: ends 4, 8.
-pub b2 : Gives 3 false false (lent 1 16 2) (polygon (four ∷ four ∷ [])) (rec 0 (1 ∷ 2 ∷ 3 ∷ 4 ∷ 5 ∷ 6 ∷ 1 ∷ 2 ∷ 1 ∷ 2 ∷ 3 ∷ 4 ∷ 5 ∷ 6 ∷ 1 ∷ 2 ∷ []) (some (4 ∷ 8 ∷ [])) ∷ []) (told (polygon (four ∷ four ∷ [])))
+pub b2 : Gives 3 false false (blank 1 16 2) (polygon (four ∷ four ∷ [])) (rec 0 (1 ∷ 2 ∷ 3 ∷ 4 ∷ 5 ∷ 6 ∷ 1 ∷ 2 ∷ 1 ∷ 2 ∷ 3 ∷ 4 ∷ 5 ∷ 6 ∷ 1 ∷ 2 ∷ []) (some (4 ∷ 8 ∷ [])) ∷ []) (told (polygon (four ∷ four ∷ [])))
 b2 = (Called.b2-called, b2-says _ (Called.b2-called .1))
 
 -- B3. No ring: empty xy; reads as one empty ring, 4 events.
-pub b3 : Gives 3 false false (lent 1 0 0) (polygon []) (rec 0 [] none ∷ []) (told (polygon ([] ∷ [])))
+pub b3 : Gives 3 false false (blank 1 0 0) (polygon []) (rec 0 [] none ∷ []) (told (polygon ([] ∷ [])))
 b3 = (Called.b3-called, b3-says _ (Called.b3-called .1))
 
 -- B4. MultiLineString of 2, 0, 3 pairs: ends 2, 2, 5.
-pub b4 : Gives 5 false false (lent 1 10 3) (beginE 5 false 3 0 ∷ (lines (two ∷ [] ∷ three ∷ []) 0 ++ (endE 5 false 0 ∷ []))) (rec 0 (1 ∷ 2 ∷ 3 ∷ 4 ∷ 1 ∷ 2 ∷ 3 ∷ 4 ∷ 5 ∷ 6 ∷ []) (some (2 ∷ 2 ∷ 5 ∷ [])) ∷ []) (told (beginE 5 false 3 0 ∷ (lines (two ∷ [] ∷ three ∷ []) 0 ++ (endE 5 false 0 ∷ []))))
+pub b4 : Gives 5 false false (blank 1 10 3) (beginE 5 false 3 0 ∷ (lines (two ∷ [] ∷ three ∷ []) 0 ++ (endE 5 false 0 ∷ []))) (rec 0 (1 ∷ 2 ∷ 3 ∷ 4 ∷ 1 ∷ 2 ∷ 3 ∷ 4 ∷ 5 ∷ 6 ∷ []) (some (2 ∷ 2 ∷ 5 ∷ [])) ∷ []) (told (beginE 5 false 3 0 ∷ (lines (two ∷ [] ∷ three ∷ []) 0 ++ (endE 5 false 0 ∷ []))))
 b4 = (Called.b4-called, b4-says _ (Called.b4-called .1))
 
 -- B5. Declared MultiLineString, tagged LineString of 2 pairs, promote: no ends, reads as one line.
-pub b5 : Gives 5 false true (lent 1 4 1) (line true two 0) (rec 0 (1 ∷ 2 ∷ 3 ∷ 4 ∷ []) none ∷ []) (told (beginE 5 false 1 0 ∷ (lines (two ∷ []) 0 ++ (endE 5 false 0 ∷ []))))
+pub b5 : Gives 5 false true (blank 1 4 1) (line true two 0) (rec 0 (1 ∷ 2 ∷ 3 ∷ 4 ∷ []) none ∷ []) (told (beginE 5 false 1 0 ∷ (lines (two ∷ []) 0 ++ (endE 5 false 0 ∷ []))))
 b5 = (Called.b5-called, b5-says _ (Called.b5-called .1))
 
 -- B6. Without promote: 5, on any memory.
@@ -94,15 +95,15 @@ pub b6 : (k : Mem) → eventCall (started 5 false false) k (events .bytes (begin
 b6 = Called.b6-called
 
 -- B7. MultiPolygon, no polygon: empty xy, no parts; reads 2, no event.
-pub b7 : Gives 6 false false (lent 1 0 0) (beginE 6 false 0 0 ∷ endE 6 false 0 ∷ []) (rec 0 [] none ∷ []) (stop 2)
+pub b7 : Gives 6 false false (blank 1 0 0) (beginE 6 false 0 0 ∷ endE 6 false 0 ∷ []) (rec 0 [] none ∷ []) (stop 2)
 b7 = (Called.b7-called, b7-says _ (Called.b7-called .1))
 
 -- B8. Declared GeometryCollection with a Polygon of one 4-pair ring: a root of type 3 over two parts of type 3, with 4 pairs and none.
-pub b8 : Gives 7 false false (lent 3 8 1) (beginE 7 false 1 0 ∷ (polygon (four ∷ []) ++ (endE 7 false 0 ∷ []))) (root 3 2 ∷ rec 3 (1 ∷ 2 ∷ 3 ∷ 4 ∷ 5 ∷ 6 ∷ 1 ∷ 2 ∷ []) none ∷ rec 3 [] none ∷ []) (told (beginE 7 false 2 0 ∷ (polygon (four ∷ []) ++ (beginE 3 true 1 1 ∷ (line false [] 0 ++ (endE 3 true 1 ∷ endE 7 false 0 ∷ []))))))
+pub b8 : Gives 7 false false (blank 3 8 1) (beginE 7 false 1 0 ∷ (polygon (four ∷ []) ++ (endE 7 false 0 ∷ []))) (root 3 2 ∷ rec 3 (1 ∷ 2 ∷ 3 ∷ 4 ∷ 5 ∷ 6 ∷ 1 ∷ 2 ∷ []) none ∷ rec 3 [] none ∷ []) (told (beginE 7 false 2 0 ∷ (polygon (four ∷ []) ++ (beginE 3 true 1 1 ∷ (line false [] 0 ++ (endE 3 true 1 ∷ endE 7 false 0 ∷ []))))))
 b8 = (Called.b8-called, b8-says _ (Called.b8-called .1))
 
 -- B9. Unknown, no detect, no promote, a collection of one Point: root type 1; reads point_begin, then 1.
-pub b9 : Gives 0 false false (lent 2 2 0) (beginE 7 false 1 0 ∷ beginE 1 false 0 0 ∷ xyE 1 2 0 ∷ endE 1 false 0 ∷ endE 7 false 0 ∷ []) (root 1 1 ∷ rec 1 (1 ∷ 2 ∷ []) none ∷ []) (say (beginE 1 false 0 0) (stop 1))
+pub b9 : Gives 0 false false (blank 2 2 0) (beginE 7 false 1 0 ∷ beginE 1 false 0 0 ∷ xyE 1 2 0 ∷ endE 1 false 0 ∷ endE 7 false 0 ∷ []) (root 1 1 ∷ rec 1 (1 ∷ 2 ∷ []) none ∷ []) (say (beginE 1 false 0 0) (stop 1))
 b9 = (Called.b9-called, b9-says _ (Called.b9-called .1))
 
 -- ---- B10 and B11: a table of one record, from its bytes

@@ -13,16 +13,16 @@ use Rattle.store.specs.Log.{events}
 use Rattle.store.specs.Records.{tableGood}
 use Rattle.reader.specs.Reading.{readS}
 use Rattle.reader.specs.Examples.{noFlags}
-use Rattle.writer.specs.declared.state.State.{State}
-use Rattle.writer.specs.State.{Mem}
-use Rattle.writer.specs.Calls.{started}
-use Rattle.written.specs.Writer.{Writer, afterAll, tree, finish, next}
-use Rattle.written.specs.Rows.{start}
-use Rattle.written.specs.Tree.{Holds}
-use Rattle.format.specs.Geometry.{Simple, point, lineString, polygon, multiPoint, multiLineString, multiPolygon, circularString, compoundCurve, curvePolygon, multiCurve, multiSurface, polyhedralSurface, tin, triangle, typeOf, deep, flatly, depth}
-use Rattle.format.specs.Events.{eventsOf}
+use Rattle.writing.specs.declared.state.State.{State}
+use Rattle.writing.specs.State.{Mem}
+use Rattle.writing.specs.Calls.{started}
+use Rattle.writer_model.specs.Writer.{Writer, afterAll, tree, finish, next}
+use Rattle.writer_model.specs.Rows.{start}
+use Rattle.writer_model.specs.Tree.{Holds}
+use Rattle.geometry.specs.Geometry.{Simple, point, lineString, polygon, multiPoint, multiLineString, multiPolygon, circularString, compoundCurve, curvePolygon, multiCurve, multiSurface, polyhedralSurface, tin, triangle, typeOf, deep, flatly, depth}
+use Rattle.geometry.specs.Events.{eventsOf}
 use Rattle.format.specs.Format.{Tree}
-use Rattle.format.specs.Told.{told, Complete}
+use Rattle.geometry.specs.Told.{told, Complete}
 use Rattle.format.specs.Reads.{agrees}
 use Rattle.format.specs.ReadsCall.{reads-said}
 use Rattle.format.specs.Writable.{Held, Writable}
@@ -44,8 +44,8 @@ AllDemanded type (f ∷ fs) = Demanded type f × AllDemanded type fs
 pub record Repeats (type : ℕ) (f : Simple) (m : Mem) : Type 0 where
   pub reads : (L : List ℕ) (number count : ℕ) (M : List ℕ) → length (eventsOf noFlags 0 f) ≤ roomOf 64 L
       → Said events (readS noFlags (recordWith (m .table) (m .pools)) type) L number count M → Complete events (eventsOf noFlags 0 f) L number count M
-  -- and no table and pools whatsoever that read to these events hold less
-  pub least : (T : List ℕ) (P : Pools) → readS noFlags (recordWith T P) type ≡ told (eventsOf noFlags 0 f) → treeSize (m .table) (m .pools) ≤ treeSize T P
+  -- no table and pools whatsoever that read to these events hold less
+  pub least : (table : List ℕ) (P : Pools) → readS noFlags (recordWith table P) type ≡ told (eventsOf noFlags 0 f) → treeSize (m .table) (m .pools) ≤ treeSize table P
 
 -- each from a table of whole records
 abbrev pub EachRepeats : ℕ → List Simple → List Mem → Type 0
@@ -109,11 +109,11 @@ module _ (type : ℕ) (detect promote : Bool) where
         let t : Tree get 0 type f = ending-means noFlags get (normal type then detect promote) type f (d .2) (d .3) (under type then (typeOf f) (d .0) known) here in
         record {
           reads = λ L number count M room said. reads-said (m .table) (m .pools) noFlags 0 type f L number count M t (agreed type f (t .root .kind) (d .0) (d .1)) (six f 0 (d .1) .1) room said;
-          least = λ T P h. smallest noFlags f (d .2) (normal type then detect promote) (m .table) T (m .pools) P (d .3) here (typed T P h);
+          least = λ table P h. smallest noFlags f (d .2) (normal type then detect promote) (m .table) table (m .pools) P (d .3) here (typed table P h);
         }
       where
-        typed : (T : List ℕ) (P : Pools) → readS noFlags (recordWith T P) type ≡ told (eventsOf noFlags 0 f) → readS noFlags (recordWith T P) (typeOf f) ≡ told (eventsOf noFlags 0 f)
-        typed T P h = ap (λ (n : ℕ). readS noFlags (recordWith T P) n) (d .0) ∙ h
+        typed : (table : List ℕ) (P : Pools) → readS noFlags (recordWith table P) type ≡ told (eventsOf noFlags 0 f) → readS noFlags (recordWith table P) (typeOf f) ≡ told (eventsOf noFlags 0 f)
+        typed table P h = ap (λ (n : ℕ). readS noFlags (recordWith table P) n) (d .0) ∙ h
 
   each : (fs : List Simple) (ms : List Mem) (current : ℕ) (s : State) (k : Mem) → AllDemanded type fs → Writes s k (resting (normal type current detect promote)) → Row noFlags s k fs ms → EachRepeats type fs ms
   each [] [] current s k d h Row.none = tt

@@ -16,19 +16,19 @@ use Rattle.store.specs.Log.{events, hear-said}
 use Rattle.lines.specs.Lines.{orNone}
 use Rattle.reader.specs.Reading.{readS}
 use Rattle.reader.specs.Examples.{noFlags}
-use Rattle.writer.specs.declared.state.State.{State}
-use Rattle.writer.specs.State.{Mem, Outcome}
-use Rattle.writer.specs.SetType.{setType}
-use Rattle.writer.specs.Calls.{started, eventCall, eventWith, askOf, begun, hasRoom, decideEvent}
-use Rattle.written.specs.Bench.{polygon, four}
-use Rattle.written.specs.BenchCalls.{lent, b1-called, b2-called}
-use Rattle.written.specs.Example.{again, over, second, second-read}
-use Rattle.written.specs.Feature.{finishedMem}
+use Rattle.writing.specs.declared.state.State.{State}
+use Rattle.writing.specs.State.{Mem, Outcome}
+use Rattle.writing.specs.SetType.{setType}
+use Rattle.writing.specs.Calls.{started, eventCall, eventWith, askOf, begun, hasRoom, decideEvent}
+use Rattle.writer_model.specs.Bench.{polygon, four}
+use Rattle.writer_model.specs.BenchCalls.{blank, b1-called, b2-called}
+use Rattle.writer_model.specs.Example.{again, over, second, second-read}
+use Rattle.writer_model.specs.Feature.{finishedMem}
 use Rattle.claims.specs.Bench.{b1}
 use Rattle.claims.specs.Outcome.{read-once}
 
 -- ---- a writer that refuses everything
-point-begins : eventCall (started 1 false false) (lent 0 0 0) (events .bytes (beginE 1 false 0 0)) .wrote .number ≡ 0
+point-begins : eventCall (started 1 false false) (blank 0 0 0) (events .bytes (beginE 1 false 0 0)) .wrote .number ≡ 0
 unfolding started eventCall eventWith askOf begun setType decideEvent hasRoom wellFormed beginE
 point-begins = rw (hear-said (beginE 1 false 0 0) small refl)
   where
@@ -37,7 +37,7 @@ point-begins = rw (hear-said (beginE 1 false 0 0) small refl)
 
 pub refuses-everything : (event : State → Mem → List ℕ → Outcome) → ((s : State) (k : Mem) (bytes : List ℕ) → event s k bytes ≡ eventCall s k bytes)
     → ((s : State) (k : Mem) (bytes : List ℕ) → event s k bytes .wrote .number ≡ 0 → ⊥) → ⊥
-refuses-everything event meets refuses = refuses _ _ _ (ap (λ (o : Outcome). o .wrote .number) (meets (started 1 false false) (lent 0 0 0) (events .bytes (beginE 1 false 0 0))) ∙ point-begins)
+refuses-everything event meets refuses = refuses _ _ _ (ap (λ (o : Outcome). o .wrote .number) (meets (started 1 false false) (blank 0 0 0) (events .bytes (beginE 1 false 0 0))) ∙ point-begins)
 
 -- ---- one with a constant tree: B1 and B2 leave different roots
 abbrev rootLeft : Mem → List Event → Option Rec
@@ -51,7 +51,7 @@ endCount : Option Rec → ℕ
 endCount none = 0
 endCount (some r) = length (orNone (r .ends))
 
-pub constant-tree : (root : Rec) → rootLeft (lent 1 8 1) (polygon (four ∷ [])) ≡ some root → rootLeft (lent 1 16 2) (polygon (four ∷ four ∷ [])) ≡ some root → ⊥
+pub constant-tree : (root : Rec) → rootLeft (blank 1 8 1) (polygon (four ∷ [])) ≡ some root → rootLeft (blank 1 16 2) (polygon (four ∷ four ∷ [])) ≡ some root → ⊥
 unfolding endCount
 constant-tree root h k = let z : _≡_ {A = ℕ} 0 2 = ap endCount (sym (b1-called .1 .0) ∙ h ∙ sym k ∙ b2-called .1 .0) in omega arith
 
@@ -68,10 +68,10 @@ something-said s rest e L q room said =
     omega (arith, n, length-take (roomOf 64 L) (e ∷ recordsOf rest))
 
 pub reads-nothing : (L : List ℕ) → 1 ≤ roomOf 64 L
-    → (let k = finishedMem (started 3 false false) (lent 1 8 1) (polygon (four ∷ [])) in Said events (readS noFlags (recordWith (k .table) (k .pools)) 3) L 0 0 L) → ⊥
+    → (let k = finishedMem (started 3 false false) (blank 1 8 1) (polygon (four ∷ [])) in Said events (readS noFlags (recordWith (k .table) (k .pools)) 3) L 0 0 L) → ⊥
 reads-nothing L room said = something-said _ _ _ L (b1 .1) room said
 
 -- ---- a record count that isn't the log's
-pub another-count : (F : Flags) (T : List ℕ) (P : Pools) (declared : ℕ) (L : List ℕ) (number count another : ℕ) (M : List ℕ)
-    → Said events (readS F (recordWith T P) declared) L number count M → (another ≡ count → ⊥) → Said events (readS F (recordWith T P) declared) L number another M → ⊥
-another-count F T P declared L number count another M said differs told = differs (read-once number number another count M M F T P declared L told said .1)
+pub another-count : (F : Flags) (table : List ℕ) (P : Pools) (declared : ℕ) (L : List ℕ) (number count another : ℕ) (M : List ℕ)
+    → Said events (readS F (recordWith table P) declared) L number count M → (another ≡ count → ⊥) → Said events (readS F (recordWith table P) declared) L number another M → ⊥
+another-count F table P declared L number count another M said differs told = differs (read-once number number another count M M F table P declared L told said .1)

@@ -10,23 +10,23 @@ use borrow.Author.Tests.{eqb-true}
 use Rattle.laws.specs.Every.{both}
 use Rattle.kinds.specs.Event.{beginE, endE, xyE, wellFormed}
 use Rattle.kinds.specs.declared.event.Event.{Event}
-use Rattle.kinds.specs.declared.event.Parsed.the-variants.{WellFormed}
+use Rattle.kinds.specs.Event.{WellFormed}
 use Rattle.store.specs.Lists.{lentOf}
 use Rattle.store.specs.Log.{events, heard, hear-said}
 use Rattle.store.specs.Records.{recordsLent}
 use Rattle.reader.specs.Examples.{noFlags}
-use Rattle.writer.specs.declared.state.State.{State}
-use Rattle.writer.specs.State.{Mem, Outcome}
-use Rattle.writer.specs.SetType.{setType}
-use Rattle.writer.specs.Calls.{started, askOf, begun, hasRoom, grownAll, pastAll, stateAfter, decideEvent, eventWith, eventCall, finished, decideFinish, renewed, decideNext}
-use Rattle.written.specs.Writer.{Writer, fresh, next}
-use Rattle.written.specs.BenchCalls.{lent}
-use Rattle.written.specs.Lengths.{lent-same, event-lengths}
-use Rattle.written.specs.Rows.{Reached, start}
-use Rattle.written.specs.Fed.{agrees-self, sized, sized-is, given, takes, fedTo, fedMem}
-use Rattle.written.specs.Feature.{finishesIn, finishedMem, nextMem, done, finished-is, goes-on, renewed-is, next-reached, next-lengths, finishes-same}
-use Rattle.format.specs.Geometry.{Coord, Line, Simple, polygon}
-use Rattle.format.specs.Events.{eventsOf}
+use Rattle.writing.specs.declared.state.State.{State}
+use Rattle.writing.specs.State.{Mem, Outcome}
+use Rattle.writing.specs.SetType.{setType}
+use Rattle.writing.specs.Calls.{started, askOf, begun, hasRoom, grownAll, pastAll, stateAfter, decideEvent, eventWith, eventCall, finished, decideFinish, renewed, decideNext}
+use Rattle.writer_model.specs.Writer.{Writer, fresh, next}
+use Rattle.writer_model.specs.BenchCalls.{blank}
+use Rattle.writer_model.specs.Lengths.{lent-same, event-lengths}
+use Rattle.writer_model.specs.Rows.{Reached, start}
+use Rattle.writer_model.specs.Fed.{agrees-self, sized, sized-is, given, takes, fedTo, fedMem}
+use Rattle.writer_model.specs.Feature.{finishesIn, finishedMem, nextMem, done, finished-is, goes-on, renewed-is, next-reached, next-lengths, finishes-same}
+use Rattle.geometry.specs.Geometry.{Coord, Line, Simple, polygon}
+use Rattle.geometry.specs.Events.{eventsOf}
 use Rattle.format.specs.Writable.{All, Has, a-polygon}
 use Rattle.claims.specs.Row.{Given, Finished, Row}
 use Rattle.claims.specs.Demand.{AllDemanded, EachRepeats, demand-three}
@@ -91,7 +91,7 @@ abbrev begin : State
 begin = started 3 false false
 
 abbrev room : Mem
-room = lent 1 16 2
+room = blank 1 16 2
 
 abbrev first : List Event
 first = eventsOf noFlags 0 field

@@ -9,16 +9,16 @@ use borrow.Author.Tests.{eqb-true, eqb-false}
 use Rattle.laws.specs.Cut.{bytesOf}
 use Rattle.kinds.specs.Event.{beginE, xyE, endE, wellFormed}
 use Rattle.kinds.specs.declared.event.Event.{Event}
-use Rattle.kinds.specs.declared.event.Parsed.the-variants.{WellFormed}
-use Rattle.layout.specs.Event.{eventBytes, eventOf, spareZero, readEvent}
+use Rattle.kinds.specs.Event.{WellFormed}
+use Rattle.event_layout.specs.Event.{eventBytes, eventOf, spareZero, readEvent}
 use Rattle.store.specs.Log.{events, heard}
-use Rattle.writer.specs.declared.state.State.{State}
-use Rattle.writer.specs.State.{Mem, Outcome}
-use Rattle.writer.specs.SetType.{setType}
-use Rattle.writer.specs.Calls.{started, askOf, begun, hasRoom, grownAll, stateAfter, decideEvent, tableAfter, memAfter, eventWith, eventCall}
-use Rattle.writer.specs.Events.{Progress, progress, took, recordOf, recordsIn, eventsFrom, eventsCall}
-use Rattle.written.specs.BenchCalls.{lent}
-use Rattle.written.specs.Fed.{agrees-self}
+use Rattle.writing.specs.declared.state.State.{State}
+use Rattle.writing.specs.State.{Mem, Outcome}
+use Rattle.writing.specs.SetType.{setType}
+use Rattle.writing.specs.Calls.{started, askOf, begun, hasRoom, grownAll, stateAfter, decideEvent, tableAfter, memAfter, eventWith, eventCall}
+use Rattle.runs.specs.Events.{Progress, progress, took, recordOf, recordsIn, eventsFrom, eventsCall}
+use Rattle.writer_model.specs.BenchCalls.{blank}
+use Rattle.writer_model.specs.Fed.{agrees-self}
 use Rattle.claims.specs.Row.{Given}
 
 -- the records from i on, of which so many are left, are these events
@@ -62,9 +62,9 @@ point-hears : Hears records (recordsIn records) 0 point
 unfolding heard readEvent eventOf spareZero wellFormed eventBytes events bytesOf beginE xyE endE records point
 point-hears = Hears.more refl (Hears.more refl (Hears.more refl Hears.none))
 
-point-taken : eventsCall (started 1 false false) (lent 0 2 0) records .took .number ≡ 0
+point-taken : eventsCall (started 1 false false) (blank 0 2 0) records .took .number ≡ 0
 unfolding eventsCall eventsFrom started eventCall eventWith askOf begun setType decideEvent hasRoom stateAfter grownAll memAfter tableAfter heard readEvent eventOf spareZero wellFormed eventBytes events bytesOf beginE xyE endE records point
 point-taken = refl
 
-pub point-given : Given (started 1 false false) (lent 0 2 0) point (eventsCall (started 1 false false) (lent 0 2 0) records .took .state) (eventsCall (started 1 false false) (lent 0 2 0) records .mem)
-point-given = events-given records (started 1 false false) (lent 0 2 0) point point-hears point-taken
+pub point-given : Given (started 1 false false) (blank 0 2 0) point (eventsCall (started 1 false false) (blank 0 2 0) records .took .state) (eventsCall (started 1 false false) (blank 0 2 0) records .mem)
+point-given = events-given records (started 1 false false) (blank 0 2 0) point point-hears point-taken

@@ -10,19 +10,20 @@ use Rattle.kinds.specs.declared.flags.Flags.{Flags}
 use Rattle.store.specs.Lists.{Pools, recordWith, lentOf}
 use Rattle.store.specs.Log.{events}
 use Rattle.store.specs.Records.{recordAt}
-use Rattle.bbox.specs.declared.geometry.Boxed.{Boxed}
-use Rattle.bbox.specs.Geometry.{boxedOf}
+use Rattle.record_box.specs.declared.Boxed.{Boxed}
+use Rattle.record_box.specs.Boxed.{boxedOf}
 use Rattle.reader.specs.Reading.{readS}
-use Rattle.props.specs.Writing.{bytesAfter}
-use Rattle.props.specs.Reading.{reading, stopped, values}
-use Rattle.writer.specs.declared.many.Took.{Took}
-use Rattle.writer.specs.declared.state.State.{State}
-use Rattle.writer.specs.declared.state.Wrote.{Wrote}
-use Rattle.writer.specs.State.{Mem, memOf, outcome, Outcome}
-use Rattle.writer.specs.Calls.{started, eventCall, finishCall, nextCall}
-use Rattle.writer.specs.Events.{Progress, progress, eventsCall}
+use Rattle.property_writer.specs.Writing.{bytesAfter}
+use Rattle.property_reader.specs.Reading.{reading, stopped}
+use Rattle.store.specs.Values.{values}
+use Rattle.runs.specs.declared.took.Took.{Took}
+use Rattle.writing.specs.declared.state.State.{State}
+use Rattle.writing.specs.declared.state.Wrote.{Wrote}
+use Rattle.writing.specs.State.{Mem, memOf, outcome, Outcome}
+use Rattle.writing.specs.Calls.{started, eventCall, finishCall, nextCall}
+use Rattle.runs.specs.Events.{Progress, progress, eventsCall}
 use Rattle.writer.specs.Property.{propertyCall}
-use Rattle.terminal.specs.Calls.{Kept, kept}
+use Rattle.bintolage.specs.Calls.{Kept, kept}
 
 -- ---- a log: its bytes, and the answer's number and count
 pub said-once : {A : Type 0} (F : Format A) (s : Script A) (L : List ℕ) (number number′ count count′ : ℕ) (M M′ : List ℕ)
@@ -94,10 +95,10 @@ property-once s column kind bits text buffer r r′ after after′ h k h′ k′
 
 -- ---- the readers
 module _ (number number′ count count′ : ℕ) (log log′ : List ℕ) where
-  pub read-once : (F : Flags) (T : List ℕ) (P : Pools) (declared : ℕ) (L : List ℕ)
-      → Said events (readS F (recordWith T P) declared) L number count log → Said events (readS F (recordWith T P) declared) L number′ count′ log′
+  pub read-once : (F : Flags) (table : List ℕ) (P : Pools) (declared : ℕ) (L : List ℕ)
+      → Said events (readS F (recordWith table P) declared) L number count log → Said events (readS F (recordWith table P) declared) L number′ count′ log′
       → (number ≡ number′) × (count ≡ count′) × (log ≡ log′)
-  read-once F T P declared L = said-once events (readS F (recordWith T P) declared) L number number′ count count′ log log′
+  read-once F table P declared L = said-once events (readS F (recordWith table P) declared) L number number′ count count′ log log′
 
   pub read-properties-once : (bytes : List ℕ) (has-columns : Bool) (columns : List ℕ) (stop : ℕ) (L : List ℕ) (at at′ : Bool)
       → run values (reading bytes has-columns columns stop) L 0 ≡ out number count log → at ≡ stopped stop (reading bytes has-columns columns stop) number
@@ -107,8 +108,8 @@ module _ (number number′ count count′ : ℕ) (log log′ : List ℕ) where
       let o = ran-once values (reading bytes has-columns columns stop) L number number′ count count′ log log′ h h′ in
       (o .0, o .1, o .2, k ∙ ap (stopped stop (reading bytes has-columns columns stop)) (o .0) ∙ sym k′)
 
-pub box-once : (T : List ℕ) (P : Pools) (n : ℕ) (b b′ : Boxed) → b ≡ boxedOf P (recordAt T (lentOf P) n) → b′ ≡ boxedOf P (recordAt T (lentOf P) n) → b ≡ b′
-box-once T P n b b′ h h′ = h ∙ sym h′
+pub box-once : (table : List ℕ) (P : Pools) (n : ℕ) (b b′ : Boxed) → b ≡ boxedOf P (recordAt table (lentOf P) n) → b′ ≡ boxedOf P (recordAt table (lentOf P) n) → b ≡ b′
+box-once table P n b b′ h h′ = h ∙ sym h′
 
 -- ---- the exported calls: event, finish and next keep the state as words; read and read_properties say what the inner calls say (`said-once`), and the others' contracts are equations
 pub kept-once : (number number′ : ℕ) (words words′ : List ℕ) (mem mem′ : Mem) (o : Kept) → kept number words mem ≡ o → kept number′ words′ mem′ ≡ o → (number ≡ number′) × (words ≡ words′) × (mem ≡ mem′)

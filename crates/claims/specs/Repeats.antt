@@ -5,21 +5,21 @@ use mathlib.Core.List.{List}
 use mathlib.Core.Option.{some}
 use Prim.Native.Nat.{ℕ}
 use Rattle.kinds.specs.declared.event.Event.{Event}
-use Rattle.kinds.specs.declared.event.Parsed.{Parsed}
+use Rattle.kinds.specs.Event.{Parsed}
 use Rattle.kinds.specs.declared.flags.Flags.{Flags}
 use Rattle.store.specs.Lists.{recordWith}
 use Rattle.store.specs.Log.{heard}
 use Rattle.store.specs.Records.{tableGood}
-use Rattle.writer.specs.declared.state.State.{State}
-use Rattle.writer.specs.State.{Mem}
-use Rattle.writer.specs.Calls.{nextCall}
-use Rattle.written.specs.Writer.{Writer, after, afterAll, rootOver, tree, finish, next}
-use Rattle.written.specs.Stands.{Agrees}
-use Rattle.written.specs.Call.{eventC, finishC, nextC, hears}
-use Rattle.written.specs.Rows.{Reached, accepted, property}
-use Rattle.written.specs.Tree.{Holds, row-tree}
-use Rattle.format.specs.Geometry.{Simple}
-use Rattle.format.specs.Events.{eventsOf}
+use Rattle.writing.specs.declared.state.State.{State}
+use Rattle.writing.specs.State.{Mem}
+use Rattle.writing.specs.Calls.{nextCall}
+use Rattle.writer_model.specs.Writer.{Writer, after, afterAll, rootOver, tree, finish, next}
+use Rattle.writer_model.specs.Stands.{Agrees}
+use Rattle.writer_model.specs.Call.{eventC, finishC, nextC, hears}
+use Rattle.writer_model.specs.Rows.{Reached, accepted, property}
+use Rattle.writer_model.specs.Tree.{Holds, row-tree}
+use Rattle.geometry.specs.Geometry.{Simple}
+use Rattle.geometry.specs.Events.{eventsOf}
 use Rattle.claims.specs.Row.{Given, Finished}
 
 -- memory and state that some row of calls leaves, and the writer on lists that they stand for

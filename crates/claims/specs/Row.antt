@@ -3,16 +3,15 @@ use mathlib.Core.Path.{_≡_}
 use mathlib.Core.List.{List, [], _∷_}
 use Prim.Native.Nat.{ℕ}
 use Rattle.kinds.specs.declared.event.Event.{Event}
-use Rattle.kinds.specs.declared.event.Parsed.the-variants.{WellFormed}
+use Rattle.kinds.specs.Event.{WellFormed}
 use Rattle.kinds.specs.declared.flags.Flags.{Flags}
 use Rattle.store.specs.Log.{heard}
-use Rattle.writer.specs.declared.state.State.{State}
-use Rattle.writer.specs.State.{Mem}
-use Rattle.writer.specs.Calls.{eventCall, finishCall, nextCall}
-use Rattle.written.specs.Stands.{Agrees}
-use Rattle.written.specs.Stays.{withProperties}
-use Rattle.format.specs.Geometry.{Simple}
-use Rattle.format.specs.Events.{eventsOf}
+use Rattle.writing.specs.declared.state.State.{State}
+use Rattle.writing.specs.State.{Mem, withProperties}
+use Rattle.writing.specs.Calls.{eventCall, finishCall, nextCall}
+use Rattle.writer_model.specs.Stands.{Agrees}
+use Rattle.geometry.specs.Geometry.{Simple}
+use Rattle.geometry.specs.Events.{eventsOf}
 
 -- events given one after another, each as a record that the writer hears as it, and none refused; properties may be written between them
 pub data Given : State → Mem → List Event → State → Mem → Type 0 where

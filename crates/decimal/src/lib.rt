@@ -4,7 +4,7 @@ mod fraction;
 use fraction::ten_millionths;
 ghost use Prim.Native.Nat.{_<_};
 
-// Without its sign: what stands before the point, and behind it in ten-millionths.
+// A number without its sign: what stands before the point, and behind it in ten-millionths.
 pub struct Decimal {
     pub whole: u64,
     pub fraction: u64,

@@ -1,10 +1,10 @@
 // Prints the numbers of standard input in decimal, one to a line: oracle/lists/decimals.py makes them, and what is to be printed.
-use layout::u32_at;
-use layout::u64_at;
+use console::end_line;
+use console::say_double;
+use console::say_float;
 use libc::STDIN_FILENO;
-use plain::end_line;
-use plain::say_double;
-use plain::say_float;
+use numbers::u32_at;
+use numbers::u64_at;
 ghost use Prim.Native.Nat.{_<_};
 
 // A letter, then eight bytes, of which a float has the first four.

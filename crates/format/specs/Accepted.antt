@@ -8,12 +8,12 @@ use lib.Dec.{eqb}
 use borrow.Author.Tests.{eqb-true}
 use Rattle.laws.specs.Every.{never, both}
 use Rattle.kinds.specs.declared.flags.Flags.{Flags}
-use Rattle.writer.specs.declared.state.Typing.{Typing}
-use Rattle.writer.specs.declared.set_type.Typed.the-variants.{Set, Mixed}
-use Rattle.writer.specs.SetType.{typedNumber, setType}
-use Rattle.written.specs.Writer.{nay}
-use Rattle.format.specs.Geometry.{Simple, multiLineString, multiPolygon, simple, Geometry, typeOf}
-use Rattle.format.specs.Events.{begins}
+use Rattle.writing.specs.declared.state.Typing.{Typing}
+use Rattle.writing.specs.declared.set_type.Typed.the-variants.{Set, Mixed}
+use Rattle.writing.specs.SetType.{typedNumber, setType}
+use Rattle.writer_model.specs.Writer.{nay}
+use Rattle.geometry.specs.Geometry.{Simple, multiLineString, multiPolygon, simple, Geometry, typeOf}
+use Rattle.geometry.specs.Events.{begins}
 use Rattle.format.specs.Writable.{Held, lines, polygons, Writable, a-point, a-line, a-polygon, many-points, many-lines, many-polygons, an-arc, a-surface, a-tin, a-triangle}
 use Rattle.format.specs.Writes.{normal, resting, on-first, liftable, declared, unknown}
 use Rattle.format.specs.Promoted.{line, rings}

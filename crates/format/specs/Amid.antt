@@ -11,13 +11,13 @@ use Rattle.kinds.specs.Event.{isTaggedType, bitSet, beginE, endE, xyE, coordina
 use Rattle.kinds.specs.declared.event.Event.{Event}
 use Rattle.kinds.specs.declared.flags.Flags.{Flags}
 use Rattle.store.specs.Lists.{Rec}
-use Rattle.lines.specs.Coords.{multi, is, or0, bits, coordE}
-use Rattle.writer.specs.declared.state.Typing.{Typing}
-use Rattle.writer.specs.State.{typing}
-use Rattle.writer.specs.Calls.{begun}
-use Rattle.written.specs.Writer.{Writer, pushed, partOf, finishPart, coordinate, endPushed, lineEnd, polygonEnd, after, afterAll}
-use Rattle.format.specs.Geometry.{Coord, Line, Rings}
-use Rattle.format.specs.Events.{shown, each, group, seenAs, coordOf, lineOf, triangleOf}
+use Rattle.geometry.specs.Coordinate.{multi, is, or0, bits, coordE}
+use Rattle.writing.specs.declared.state.Typing.{Typing}
+use Rattle.writing.specs.State.{typing}
+use Rattle.writing.specs.Calls.{begun}
+use Rattle.writer_model.specs.Writer.{Writer, pushed, partOf, finishPart, coordinate, endPushed, lineEnd, polygonEnd, after, afterAll}
+use Rattle.geometry.specs.Geometry.{Coord, Line, Rings}
+use Rattle.geometry.specs.Events.{shown, each, group, seenAs, coordOf, lineOf, triangleOf}
 use Rattle.format.specs.Format.{xyOf, joined, endsFrom}
 use Rattle.format.specs.FormatLaws.{xy-append, half}
 use Rattle.format.specs.Writable.{All, Has, HasRings}

@@ -11,14 +11,15 @@ use Rattle.kinds.specs.Event.{beginE, endE, xyE, coordinateE}
 use Rattle.kinds.specs.declared.event.Event.{Event}
 use Rattle.kinds.specs.declared.flags.Flags.{Flags}
 use Rattle.store.specs.Lists.{Rec}
-use Rattle.lines.specs.Coords.{coordE, taken, coordinateS, pairS, coordsS, betweenS}
+use Rattle.geometry.specs.Coordinate.{coordE}
+use Rattle.coords.specs.Coords.{taken, coordinateS, pairS, coordsS, betweenS}
 use Rattle.lines.specs.Lines.{stretchS, linesS, flatO, flatS, ringsS, stretchesS, polygonS, multiLineS, triangleAt, trianglesS, triangleS, tinS, pointS}
 use Rattle.reader.specs.Reading.{partsS, spanS, polygonPart, curveOf, curveS, kindS, geometryS, rootS, readS}
-use Rattle.writer.specs.SetType.{unknownType, collected, setType}
-use Rattle.writer.specs.Calls.{begun}
-use Rattle.written.specs.Writer.{Writer, fresh, longer, partOf, finishPart, coordinate, endPushed, lineEnd, polygonEnd, after, afterAll, nay, finish, tree, next}
-use Rattle.format.specs.Geometry.{Coord, Geometry}
-use Rattle.format.specs.Events.{eventsOf}
+use Rattle.writing.specs.SetType.{unknownType, collected, setType}
+use Rattle.writing.specs.Calls.{begun}
+use Rattle.writer_model.specs.Writer.{Writer, fresh, longer, partOf, finishPart, coordinate, endPushed, lineEnd, polygonEnd, after, afterAll, nay, finish, tree, next}
+use Rattle.geometry.specs.Geometry.{Coord, Geometry}
+use Rattle.geometry.specs.Events.{eventsOf}
 
 abbrev pub plain : Flags
 plain = record { z = false; m = false; t = false; tm = false }

@@ -10,14 +10,14 @@ use Rattle.kinds.specs.Event.{isTaggedType, beginE, endE}
 use Rattle.kinds.specs.declared.event.Event.{Event}
 use Rattle.kinds.specs.declared.flags.Flags.{Flags}
 use Rattle.store.specs.Lists.{Rec}
-use Rattle.writer.specs.declared.state.Typing.{Typing}
-use Rattle.writer.specs.State.{typing}
-use Rattle.writer.specs.SetType.{unknownType, collected, setType}
-use Rattle.writer.specs.Calls.{begun}
-use Rattle.written.specs.Writer.{Writer, longer, partOf, finishPart, endPushed, lineEnd, after, afterAll, tree}
-use Rattle.written.specs.Tree.{Holds}
-use Rattle.format.specs.Geometry.{Coord, Line, Simple, point, lineString, multiLineString, tin, triangle, collection, typeOf}
-use Rattle.format.specs.Events.{each, lineOf, simpleOf, geometryOf}
+use Rattle.writing.specs.declared.state.Typing.{Typing}
+use Rattle.writing.specs.State.{typing}
+use Rattle.writing.specs.SetType.{unknownType, collected, setType}
+use Rattle.writing.specs.Calls.{begun}
+use Rattle.writer_model.specs.Writer.{Writer, longer, partOf, finishPart, endPushed, lineEnd, after, afterAll, tree}
+use Rattle.writer_model.specs.Tree.{Holds}
+use Rattle.geometry.specs.Geometry.{Coord, Line, Simple, point, lineString, multiLineString, tin, triangle, collection, typeOf}
+use Rattle.geometry.specs.Events.{each, lineOf, simpleOf, geometryOf}
 use Rattle.format.specs.Format.{Lines, Each, Is, Means, Tree}
 use Rattle.format.specs.Writable.{All, Some, Has}
 use Rattle.format.specs.Tables.{tableOf, rootTable, table-coords}

@@ -7,11 +7,11 @@ use Prim.Native.Nat.{ℕ}
 use Rattle.laws.specs.Script.{Script, stop, say}
 use Rattle.kinds.specs.Event.{beginE}
 use Rattle.kinds.specs.declared.event.Event.{Event}
-use Rattle.lines.specs.Coords.{coordE}
-use Rattle.written.specs.Writer.{finish, next}
-use Rattle.format.specs.Geometry.{straight, arc, segment, flat, Simple, point, lineString, polygon, multiPoint, multiLineString, multiPolygon, circularString, compoundCurve, curvePolygon, multiCurve, multiSurface, polyhedralSurface, tin, simple, collection, Geometry}
-use Rattle.format.specs.Events.{eventsOf}
-use Rattle.format.specs.Told.{told}
+use Rattle.geometry.specs.Coordinate.{coordE}
+use Rattle.writer_model.specs.Writer.{finish, next}
+use Rattle.geometry.specs.Geometry.{straight, arc, segment, flat, Simple, point, lineString, polygon, multiPoint, multiLineString, multiPolygon, circularString, compoundCurve, curvePolygon, multiCurve, multiSurface, polyhedralSurface, tin, simple, collection, Geometry}
+use Rattle.geometry.specs.Events.{eventsOf}
+use Rattle.geometry.specs.Told.{told}
 use Rattle.format.specs.Cases.{plain, high, here, there, raised, written, there-and-back}
 
 -- read as a geometry, refused with a number, or refused by the writer
@@ -94,7 +94,7 @@ pub promoted-inside : there-and-back plain 1 0 true (collection (lineString (her
 unfolding there-and-back eventsOf
 promoted-inside = refl
 
--- a MultiPoint's or CircularString's end makes no part;
+-- a MultiPoint's or CircularString's end makes no part
 pub points-inside : inside (multiPoint (here ∷ []) ∷ []) ≡ refusedWith 2
 unfolding there-and-back
 points-inside = refl
@@ -103,12 +103,12 @@ pub arc-inside : inside (circularString (here ∷ []) ∷ []) ≡ refusedWith 2
 unfolding there-and-back
 arc-inside = refl
 
--- the pairs go to the next part,
+-- the pairs of such an end go to the next part, where one follows
 pub points-then-point : inside (multiPoint (there ∷ []) ∷ point here ∷ []) ≡ backAs 1 (collection (point there ∷ []))
 unfolding there-and-back eventsOf
 points-then-point = refl
 
--- or to the next feature
+-- where no part follows, the pairs of such an end go to the next feature
 pub point-then-points : next (finish (written plain 1 7 false (collection (point here ∷ multiPoint (there ∷ []) ∷ [])))) .pending .xy ≡ 3 ∷ 4 ∷ []
 unfolding written
 point-then-points = refl

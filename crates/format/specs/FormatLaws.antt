@@ -8,10 +8,10 @@ use native.Mathlib.Omega.{arith}
 use lib.ListN.{length}
 use lib.Dec.{leb}
 use Rattle.laws.specs.Every.{never}
-use Rattle.lines.specs.Coords.{tailOf, dropO, seen}
+use Rattle.coords.specs.Coords.{tailOf, dropO, seen}
 use Rattle.lines.specs.Lines.{single}
-use Rattle.format.specs.Geometry.{Coord, Line}
-use Rattle.format.specs.Events.{shown}
+use Rattle.geometry.specs.Geometry.{Coord, Line}
+use Rattle.geometry.specs.Events.{shown}
 use Rattle.format.specs.Format.{xyOf, valuesOf, ByCoord, endsFrom, Ends}
 
 -- ---- xy

@@ -1,8 +1,5 @@
-pub mod Geometry
-pub mod Events
 pub mod Format
 pub mod FormatLaws
-pub mod Told
 pub mod ReadsLines
 pub mod Reads
 pub mod ReadsCall

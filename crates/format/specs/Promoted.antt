@@ -10,14 +10,14 @@ use lib.Dec.{eqb}
 use Rattle.kinds.specs.Event.{beginE, endE}
 use Rattle.kinds.specs.declared.flags.Flags.{Flags}
 use Rattle.store.specs.Lists.{Rec}
-use Rattle.writer.specs.declared.state.Typing.{Typing}
-use Rattle.writer.specs.State.{typing}
-use Rattle.writer.specs.SetType.{withMode, unknownType, collected, setType}
-use Rattle.writer.specs.Calls.{begun}
-use Rattle.written.specs.Writer.{Writer, partOf, finishPart, endPushed, lineEnd, polygonEnd, after, afterAll, tree}
-use Rattle.written.specs.Tree.{Holds}
-use Rattle.format.specs.Geometry.{Line, Rings, Simple, lineString, polygon, multiLineString, multiPolygon, typeOf}
-use Rattle.format.specs.Events.{simpleOf, begins}
+use Rattle.writing.specs.declared.state.Typing.{Typing}
+use Rattle.writing.specs.State.{typing}
+use Rattle.writing.specs.SetType.{withMode, unknownType, collected, setType}
+use Rattle.writing.specs.Calls.{begun}
+use Rattle.writer_model.specs.Writer.{Writer, partOf, finishPart, endPushed, lineEnd, polygonEnd, after, afterAll, tree}
+use Rattle.writer_model.specs.Tree.{Holds}
+use Rattle.geometry.specs.Geometry.{Line, Rings, Simple, lineString, polygon, multiLineString, multiPolygon, typeOf}
+use Rattle.geometry.specs.Events.{simpleOf, begins}
 use Rattle.format.specs.Format.{Tree}
 use Rattle.format.specs.FormatLaws.{half}
 use Rattle.format.specs.Writable.{All, Has, HasRings, Held, lines, polygons, Writable, many-lines, many-polygons}

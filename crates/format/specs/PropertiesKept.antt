@@ -11,14 +11,17 @@ use borrow.Author.Tests.{eqb-true, ne-eqb, lt-ltb, le-ltb, le-leb, lt-leb}
 use Rattle.laws.specs.Every.{every-at}
 use Rattle.laws.specs.Script.{say, out, run}
 use Rattle.laws.specs.Cut.{roomOf, said}
-use Rattle.text.specs.Utf8.{isUtf8, firstBad, run as run-of, charLength, rowOf, begins, has}
+use Rattle.utf8.specs.Utf8.{isUtf8, firstBad, run as run-of, charLength, rowOf, begins, has}
 use Rattle.kinds.specs.declared.value.Value.{Value as Record}
-use Rattle.props.specs.Column.{widthOf, isText}
-use Rattle.props.specs.Writing.{textBytes, laidDown, propertyBytes as laid, malformed, notUtf8, refusalOf}
-use Rattle.props.specs.WritingLaws.{Accepted, accepted, value-number, value-text}
-use Rattle.props.specs.Reading.{textOk, propertiesFrom, reading, values}
-use Rattle.props.specs.ReadingLaws.{Writable, valueBack, read-back, read-end, read-whole}
-use Rattle.format.specs.Told.{told, Complete, said-complete}
+use Rattle.property_value.specs.Column.{widthOf, isText}
+use Rattle.property_writer.specs.Writing.{textBytes, laidDown, propertyBytes as laid, refusalOf}
+use Rattle.property_value.specs.Value.{malformed, textOk}
+use Rattle.property_writer.specs.WritingLaws.{Accepted, accepted, value-number, value-text}
+use Rattle.property_reader.specs.Reading.{propertiesFrom, reading}
+use Rattle.store.specs.Values.{values}
+use Rattle.properties.specs.ReadBack.{Writable, valueBack, read-back}
+use Rattle.property_reader.specs.ReadingLaws.{read-end, read-whole}
+use Rattle.geometry.specs.Told.{told, Complete, said-complete}
 use Rattle.format.specs.Properties.{Number, byte, ubyte, bool, short, ushort, int, uint, long, ulong, float, double, Sized, string, json, dateTime, binary, Value, number, sized, formOf, sizedType, typeOf, Spelt, Fits, valueBytes, Property, propertyBytes, bufferOf, Keyed, AllKeyed}
 
 -- ---- types by their numbers
@@ -63,11 +66,11 @@ sized-above json = (omega arith, omega arith)
 sized-above dateTime = (omega arith, omega arith)
 sized-above binary = (omega arith, omega arith)
 
-spelt : (k : Sized) (bytes : List ℕ) → (isText (sizedType k) ≡ true → isUtf8 bytes ≡ true) → Spelt k bytes
-unfolding isText
-spelt string bytes h = h refl
-spelt json bytes h = h refl
-spelt dateTime bytes h = h refl
+spelt : (k : Sized) (bytes : List ℕ) → textOk (sizedType k) bytes ≡ true → Spelt k bytes
+unfolding textOk isText
+spelt string bytes h = h
+spelt json bytes h = h
+spelt dateTime bytes h = h
 spelt binary bytes h = tt
 
 text-ok : (k : Sized) (bytes : List ℕ) → Spelt k bytes → textOk (sizedType k) bytes ≡ true
@@ -124,13 +127,13 @@ put-is waiting used column kind bits text lent done = go (decLt kind 11)
         record {
           value = sized (sizedOf kind) text;
           type = sized-type kind k (a .known);
-          fits = (a .exact .count k, spelt (sizedOf kind) text (λ e. a .utf8 (rw (sized-type kind k (a .known)) at e)));
+          fits = (a .exact .count k, spelt (sizedOf kind) text (ap (λ (type : ℕ). textOk type text) (sized-type kind k (a .known)) ∙ a .utf8));
           bytes = rw (value-text kind bits text k) (unfold textBytes in refl);
         }
 
--- and every value of a type is accepted, where there is room
-well-formed : (v : Value) → Fits v → (malformed (typeOf v) (bitsIn v) ≡ false) × (notUtf8 (typeOf v) (bytesIn v) ≡ false)
-unfolding malformed notUtf8 isText
+-- every value of a type is accepted, where there is room
+well-formed : (v : Value) → Fits v → (malformed (typeOf v) (bitsIn v) ≡ false) × (textOk (typeOf v) (bytesIn v) ≡ true)
+unfolding malformed textOk isText
 well-formed (number k n) f =
     let g = formed k in
     let fit : n < 256 ^ widthOf (formOf k .type) = rw (g .wide) (omega (arith, g .below)) in
@@ -142,10 +145,10 @@ well-formed (number k n) f =
     no-lie false e = refl
 well-formed (sized k bytes) f = go k (f .1)
   where
-    go : (k : Sized) → Spelt k bytes → (malformed (sizedType k) 0 ≡ false) × (notUtf8 (sizedType k) bytes ≡ false)
-    go string s = (refl, rw s)
-    go json s = (refl, rw s)
-    go dateTime s = (refl, rw s)
+    go : (k : Sized) → Spelt k bytes → (malformed (sizedType k) 0 ≡ false) × (textOk (sizedType k) bytes ≡ true)
+    go string s = (refl, s)
+    go json s = (refl, s)
+    go dateTime s = (refl, s)
     go binary s = (refl, refl)
 
 pub put-takes : (used : ℕ) (p : Property) (lent : ℕ) → p .column < 65536 → Fits (p .value) → used + length (propertyBytes p) ≤ lent → used + length (propertyBytes p) ≤ 65536 → refusalOf false used (p .column) (typeOf (p .value)) (bitsIn (p .value)) (bytesIn (p .value)) lent ≡ 0

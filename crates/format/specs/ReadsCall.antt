@@ -20,29 +20,29 @@ use Rattle.store.specs.RecordLaws.{InPool, within}
 use Rattle.store.specs.Lists.{Pools, lentOf, listOf, seen, recordWith}
 use Rattle.lines.specs.Lines.{orNone}
 use Rattle.reader.specs.Reading.{readS}
-use Rattle.format.specs.Geometry.{Geometry, depth}
-use Rattle.format.specs.Events.{eventsOf}
+use Rattle.geometry.specs.Geometry.{Geometry, depth}
+use Rattle.geometry.specs.Events.{eventsOf}
 use Rattle.format.specs.Format.{Tree}
-use Rattle.format.specs.Told.{Complete, said-complete}
+use Rattle.geometry.specs.Told.{Complete, said-complete}
 use Rattle.format.specs.Reads.{Small, AllSmall, agrees, reads}
 
-module _ (T : List ℕ) (P : Pools) where
+module _ (table : List ℕ) (P : Pools) where
   stretch-small : (s : Span) → InPool s (length (P .xy)) 131072 → length (orNone (listOf (P .xy) s)) ≤ 131072
   stretch-small Absent h = omega arith
   stretch-small (Stretch start count) h = omega (arith, h .1, length-take count (drop start (P .xy)))
 
   -- a record of a table and pools has no more xy words than may be used
-  pub usable-small : AllSmall (recordWith T P)
+  pub usable-small : AllSmall (recordWith table P)
   unfolding recordWith
-  usable-small n p e = go (recordAt T (lentOf P) n) refl e
+  usable-small n p e = go (recordAt table (lentOf P) n) refl e
     where
-      go : (j : Judged) → recordAt T (lentOf P) n ≡ j → seen P j ≡ some p → Small p
+      go : (j : Judged) → recordAt table (lentOf P) n ≡ j → seen P j ≡ some p → Small p
       go Bad r e = absurd (never (cc))
       go (Good g) r e =
           let same : p .xy ≡ listOf (P .xy) (g .xy) = cc in
-          rw same (omega (arith, stretch-small (g .xy) (within T (lentOf P) n g r .lists xyL)))
+          rw same (omega (arith, stretch-small (g .xy) (within table (lentOf P) n g r .lists xyL)))
 
-  pub reads-said : (F : Flags) (n declared : ℕ) (g : Geometry n) (L : List ℕ) (number count : ℕ) (M : List ℕ) (t : Tree (recordWith T P) n declared g) → agrees declared (t .root .kind) ≡ true → depth n g ≤ 15 → length (eventsOf F n g) ≤ roomOf 64 L
-      → Said events (readS F (recordWith T P) declared) L number count M → Complete events (eventsOf F n g) L number count M
+  pub reads-said : (F : Flags) (n declared : ℕ) (g : Geometry n) (L : List ℕ) (number count : ℕ) (M : List ℕ) (t : Tree (recordWith table P) n declared g) → agrees declared (t .root .kind) ≡ true → depth n g ≤ 15 → length (eventsOf F n g) ≤ roomOf 64 L
+      → Said events (readS F (recordWith table P) declared) L number count M → Complete events (eventsOf F n g) L number count M
   unfolding events
-  reads-said F n declared g L number count M t a d room said = said-complete events _ (eventsOf F n g) L number count M (reads F (recordWith T P) usable-small n declared g t a d) room said
+  reads-said F n declared g L number count M t a d room said = said-complete events _ (eventsOf F n g) L number count M (reads F (recordWith table P) usable-small n declared g t a d) room said

@@ -15,16 +15,16 @@ use Rattle.store.specs.Lists.{Rec, recordWith}
 use Rattle.store.specs.Log.{events}
 use Rattle.store.specs.Records.{tableGood}
 use Rattle.reader.specs.Reading.{readS}
-use Rattle.writer.specs.declared.state.State.{State}
-use Rattle.writer.specs.State.{Mem}
-use Rattle.written.specs.Writer.{Writer, fresh, rootOver, finish, tree, next}
-use Rattle.written.specs.Stands.{Agrees}
-use Rattle.written.specs.Rows.{Reached, row-stands}
-use Rattle.written.specs.Tree.{Holds, row-tree}
-use Rattle.format.specs.Geometry.{Coord, Simple, simple, collection, Geometry, deep, flatly, simpleDepth, depth}
-use Rattle.format.specs.Events.{eventsOf}
+use Rattle.writing.specs.declared.state.State.{State}
+use Rattle.writing.specs.State.{Mem}
+use Rattle.writer_model.specs.Writer.{Writer, fresh, rootOver, finish, tree, next}
+use Rattle.writer_model.specs.Stands.{Agrees}
+use Rattle.writer_model.specs.Rows.{Reached, row-stands}
+use Rattle.writer_model.specs.Tree.{Holds, row-tree}
+use Rattle.geometry.specs.Geometry.{Coord, Simple, simple, collection, Geometry, deep, flatly, simpleDepth, depth}
+use Rattle.geometry.specs.Events.{eventsOf}
 use Rattle.format.specs.Format.{Tree}
-use Rattle.format.specs.Told.{told, Complete}
+use Rattle.geometry.specs.Told.{told, Complete}
 use Rattle.format.specs.Reads.{AllSmall, agrees, reads}
 use Rattle.format.specs.ReadsCall.{reads-said}
 use Rattle.format.specs.Writable.{Held, Writable, a-point, a-line, a-polygon, many-points, many-lines, many-polygons, an-arc, a-surface, a-tin, a-triangle}
@@ -118,7 +118,7 @@ module _ (F : Flags) (w : Writer) (r : Row) (means : (get : ℕ → Option Rec) 
       v : Writer
       v = over F w (r .given)
 
-  -- and the log gets its events
+  -- read back, the log gets the events of the geometry that is kept
   pub call-reads : (d : ℕ) (detect promote : Bool) → Keeps F d detect promote (r .given) (r .kept) → (L : List ℕ) (number count : ℕ) (M : List ℕ) → length (eventsOf F 1 (r .kept)) ≤ roomOf 64 L
       → Said events (readS F (recordWith (m .table) (m .pools)) (s .typing .declared)) L number count M → Complete events (eventsOf F 1 (r .kept)) L number count M
   call-reads d detect promote q L number count M room said =

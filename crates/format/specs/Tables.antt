@@ -11,11 +11,11 @@ use borrow.Author.Tests.{lt-leb}
 use Rattle.laws.specs.Every.{never}
 use Rattle.kinds.specs.declared.flags.Flags.{Flags}
 use Rattle.store.specs.Lists.{Rec}
-use Rattle.lines.specs.Coords.{is}
+use Rattle.geometry.specs.Coordinate.{is}
 use Rattle.lines.specs.Lines.{orNone}
-use Rattle.written.specs.Writer.{longer}
-use Rattle.written.specs.Tree.{Holds}
-use Rattle.format.specs.Geometry.{Coord, Line, Rings}
+use Rattle.writer_model.specs.Writer.{longer}
+use Rattle.writer_model.specs.Tree.{Holds}
+use Rattle.geometry.specs.Geometry.{Coord, Line, Rings}
 use Rattle.format.specs.Format.{xyOf, valuesOf, ByCoord, Coords, joined, endsFrom, Ends, Lines, Each}
 use Rattle.format.specs.FormatLaws.{ends-length}
 use Rattle.format.specs.Writable.{All, Some, Has, HasRings}
@@ -33,7 +33,7 @@ vals f (c ∷ cs) = listed (f c) ++ vals f cs
 unfoldable pub tableOf : ℕ → List Coord → List ℕ → Rec
 tableOf type cs es = record { kind = type; xy = some (xyOf cs); ends = longer 1 es; z = longer 0 (vals (λ c. c .z) cs); m = longer 0 (vals (λ c. c .m) cs); t = longer 0 (vals (λ c. c .t) cs); tm = longer 0 (vals (λ c. c .tm) cs); parts = none }
 
--- of rings, or lines
+-- a table of rings, or of lines
 abbrev pub ringsTable : ℕ → Rings → Rec
 ringsTable type rs = tableOf type (joined rs) (endsFrom 0 rs)
 

@@ -11,15 +11,15 @@ use Rattle.kinds.specs.Event.{beginE, endE}
 use Rattle.kinds.specs.declared.event.Event.{Event}
 use Rattle.kinds.specs.declared.flags.Flags.{Flags}
 use Rattle.store.specs.Lists.{Rec}
-use Rattle.writer.specs.declared.state.Typing.{Typing}
-use Rattle.writer.specs.declared.set_type.Typed.the-variants.{Set}
-use Rattle.writer.specs.State.{typing}
-use Rattle.writer.specs.SetType.{typedNumber, unknownType, collected, setType}
-use Rattle.writer.specs.Calls.{begun}
-use Rattle.written.specs.Writer.{Writer, fresh, typedTo, partOf, lineEnd, polygonEnd, after, afterAll, nay, finish, tree, next}
-use Rattle.written.specs.Tree.{Holds}
-use Rattle.format.specs.Geometry.{Line, Coord, Simple, point, lineString, polygon, multiPoint, multiLineString, multiPolygon, circularString, compoundCurve, curvePolygon, multiCurve, multiSurface, polyhedralSurface, tin, triangle, typeOf}
-use Rattle.format.specs.Events.{Tells, each, group, coordOf, lineOf, triangleOf, simpleOf, begins}
+use Rattle.writing.specs.declared.state.Typing.{Typing}
+use Rattle.writing.specs.declared.set_type.Typed.the-variants.{Set}
+use Rattle.writing.specs.State.{typing}
+use Rattle.writing.specs.SetType.{typedNumber, unknownType, collected, setType}
+use Rattle.writing.specs.Calls.{begun}
+use Rattle.writer_model.specs.Writer.{Writer, fresh, typedTo, partOf, lineEnd, polygonEnd, after, afterAll, nay, finish, tree, next}
+use Rattle.writer_model.specs.Tree.{Holds}
+use Rattle.geometry.specs.Geometry.{Line, Coord, Simple, point, lineString, polygon, multiPoint, multiLineString, multiPolygon, circularString, compoundCurve, curvePolygon, multiCurve, multiSurface, polyhedralSurface, tin, triangle, typeOf}
+use Rattle.geometry.specs.Events.{Tells, each, group, coordOf, lineOf, triangleOf, simpleOf, begins}
 use Rattle.format.specs.Format.{Coords, joined, endsFrom, Lines, Parts, Is, Tree}
 use Rattle.format.specs.Writable.{All, Some, Has, HasRings, Held, coords, lines, polygons, Writable, a-point, a-line, a-polygon, many-points, many-lines, many-polygons, an-arc, a-surface, a-tin, a-triangle}
 use Rattle.format.specs.Tables.{tableOf, ringsTable, rootTable, table-coords, table-lines, parts-are}

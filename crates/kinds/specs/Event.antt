@@ -1,15 +1,14 @@
 -- 01, "Event, 64 bytes": the kinds of event, the fields that each uses, and the events that keep the rules.
+use mathlib.Core.Path.{_≡_}
 use mathlib.Core.Bool.{Bool, false, not, cond, _&&_, _||_}
 use Prim.Native.Nat.{ℕ, _+_, _-_, _/_, _%_, _<_}
 use lib.Dec.{leb, ltb, eqb}
 use Rattle.kinds.specs.declared.event.Event.{Event}
 use Rattle.kinds.specs.declared.event.Uses.{Uses}
+use Rattle.kinds.specs.declared.event.Heard.{Heard}
+use Rattle.kinds.specs.declared.event.Heard.the-variants.{Pair, Coordinate, Quiet, Other, Malformed as Unheard}
 use Rattle.kinds.specs.declared.event.Bare.{Bare}
-use Rattle.kinds.specs.declared.event.Bare.the-variants.{Pair, Other}
-use Rattle.kinds.specs.declared.event.Valued.{Valued}
-use Rattle.kinds.specs.declared.event.Valued.the-variants.{Coordinate, Other as Valueless}
-use Rattle.kinds.specs.declared.event.Parsed.{Parsed}
-use Rattle.kinds.specs.declared.event.Parsed.the-variants.{WellFormed, Malformed}
+use Rattle.kinds.specs.declared.event.Bare.the-variants.{Pair as BarePair, Other as BareOther}
 
 -- Types 0, 13 and 14 have no events.
 abbrev pub hasEvents : ℕ → Bool
@@ -28,96 +27,78 @@ isXy kind = eqb kind 64
 abbrev pub isCoordinate : ℕ → Bool
 isCoordinate kind = eqb kind 65
 
--- Tagged is used by LineString, Polygon and Triangle, begin and end;
+-- tagged is used by LineString, Polygon and Triangle, begin and end
 abbrev pub isTaggedType : ℕ → Bool
 isTaggedType type = eqb type 2 || eqb type 3 || eqb type 17
 
 abbrev pub usesTagged : ℕ → Bool
 usesTagged kind = isTaggedType kind || isTaggedType (kind - 32)
 
--- size by begins but Point's;
+-- size is used by begins but Point's
 abbrev pub usesSize : ℕ → Bool
 usesSize kind = isBegin kind && not (eqb kind 1)
 
--- idx by all;
+-- idx is used by all kinds
 abbrev pub usesIdx : ℕ → Bool
 usesIdx kind = isBegin kind || isEnd kind || isXy kind || isCoordinate kind
 
--- x and y by 64 and 65;
+-- x and y are used by 64 and 65
 abbrev pub usesPair : ℕ → Bool
 usesPair kind = isXy kind || isCoordinate kind
 
--- present bits by 65.
+-- present bits are used by 65
 abbrev pub usesPresent : ℕ → Bool
 usesPresent kind = isCoordinate kind
 
-unfoldable pub usesOf : ℕ → Uses
+abbrev pub usesOf : ℕ → Uses
 usesOf kind = record { idx = usesIdx kind; tagged = usesTagged kind; size = usesSize kind; pair = usesPair kind; present = usesPresent kind }
 
 abbrev pub bitSet : ℕ → ℕ → Bool
 bitSet bits bit = eqb (bits / bit % 2) 1
 
--- A field not used, or an absent value, is zero.
+-- A field not used, or an absent value, is zero. (A number that does not use idx is no kind.)
+abbrev pub keepsUses : Event → Uses → Bool
+keepsUses e uses =
+    uses .idx
+    && (uses .tagged || not (e .tagged))
+    && (uses .present || eqb (e .present) 0)
+    && ltb (e .present) 16
+    && (uses .size || eqb (e .size) 0)
+    && (uses .pair || eqb (e .x) 0)
+    && (uses .pair || eqb (e .y) 0)
+    && ((uses .present && bitSet (e .present) 1) || eqb (e .z) 0)
+    && ((uses .present && bitSet (e .present) 2) || eqb (e .m) 0)
+    && ((uses .present && bitSet (e .present) 4) || eqb (e .t) 0)
+    && ((uses .present && bitSet (e .present) 8) || eqb (e .tm) 0)
+
 unfoldable pub wellFormed : Event → Bool
-wellFormed e =
-    usesIdx (e .kind)
-    && (usesTagged (e .kind) || not (e .tagged))
-    && (usesPresent (e .kind) || eqb (e .present) 0)
-    && ltb (e .present) 16
-    && (usesSize (e .kind) || eqb (e .size) 0)
-    && (usesPair (e .kind) || eqb (e .x) 0)
-    && (usesPair (e .kind) || eqb (e .y) 0)
-    && (bitSet (e .present) 1 || eqb (e .z) 0)
-    && (bitSet (e .present) 2 || eqb (e .m) 0)
-    && (bitSet (e .present) 4 || eqb (e .t) 0)
-    && (bitSet (e .present) 8 || eqb (e .tm) 0)
+wellFormed e = keepsUses e (usesOf (e .kind))
 
--- What that leaves of each kind. Of xy: no more than an index and a pair;
-unfoldable pub isBare : Event → Bool
-isBare e = not (e .tagged) && eqb (e .present) 0 && eqb (e .size) 0 && eqb (e .z) 0 && eqb (e .m) 0 && eqb (e .t) 0 && eqb (e .tm) 0
+-- bytes as an event, or as none
+pub data Parsed : Type 0 where
+  WellFormed : Event → Parsed
+  Malformed : Parsed
 
--- of coordinate: the present values as well;
-unfoldable pub isValued : Event → Bool
-isValued e =
-    not (e .tagged)
-    && ltb (e .present) 16
-    && eqb (e .size) 0
-    && (bitSet (e .present) 1 || eqb (e .z) 0)
-    && (bitSet (e .present) 2 || eqb (e .m) 0)
-    && (bitSet (e .present) 4 || eqb (e .t) 0)
-    && (bitSet (e .present) 8 || eqb (e .tm) 0)
-
--- of begins and ends: an index, a tag and a size.
-unfoldable pub isFrame : Event → Bool
-isFrame e =
-    usesIdx (e .kind)
-    && (usesTagged (e .kind) || not (e .tagged))
-    && eqb (e .present) 0
-    && (usesSize (e .kind) || eqb (e .size) 0)
-    && eqb (e .x) 0
-    && eqb (e .y) 0
-    && eqb (e .z) 0
-    && eqb (e .m) 0
-    && eqb (e .t) 0
-    && eqb (e .tm) 0
-
--- bytes that are an xy event
-abbrev pub bareOf : Parsed → Bare
-bareOf (WellFormed e) = cond (isXy (e .kind)) (Pair (e .x) (e .y)) Other
-bareOf Malformed = Other
-
--- bytes that are a coordinate event
-abbrev pub valuedOf : Parsed → Valued
-valuedOf (WellFormed e) = cond (isCoordinate (e .kind)) (Coordinate e) Valueless
-valuedOf Malformed = Valueless
+-- an event's fields, read from a record whose other bytes are sound or not
+unfoldable pub parsed : Bool → Event → Parsed
+parsed sound e = cond (sound && wellFormed e) (WellFormed e) Malformed
 
 -- a begin that sets no type
 abbrev pub isQuiet : Event → Bool
 isQuiet e = isTaggedType (e .kind) && not (e .tagged)
 
-abbrev pub quietOf : Parsed → Bool
-quietOf (WellFormed e) = isQuiet e
-quietOf Malformed = false
+-- what the writer tells apart: a pair, a coordinate, a begin that sets no type, any other event, none
+abbrev pub toldApart : Parsed → Heard
+toldApart Malformed = Unheard
+toldApart (WellFormed e) =
+    cond (isXy (e .kind)) (Pair (e .x) (e .y))
+    (cond (isCoordinate (e .kind)) (Coordinate e)
+    (cond (isQuiet e) Quiet (Other e)))
+
+-- a quick look: it tells of a pair that the bytes are one, and of anything else nothing
+abbrev pub BareOf : Parsed → Bare → Type 0
+BareOf p (BarePair x y) = toldApart p ≡ Pair x y
+BareOf p BareOther = Unit
 
 -- the paper's number for each case: done, or 11
 abbrev pub parsedNumber : Parsed → ℕ

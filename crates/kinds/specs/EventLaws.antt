@@ -1,16 +1,15 @@
 -- Laws of events.
-use mathlib.Core.Path.{_≡_, refl}
+use mathlib.Core.Path.{_≡_, refl, sym, ap, _∙_}
 use mathlib.Core.Bool.{Bool, true, false, cond, not, _&&_, _||_, Bool·beq}
-use Prim.Native.Nat.{ℕ, _+_, _≤_, _<_}
+use Prim.Native.Nat.{ℕ, _+_, _-_, _≤_, _<_}
+use native.Mathlib.Omega.{arith}
 use lib.Dec.{ltb, eqb}
-use borrow.Author.Tests.{eqb-true, ne-eqb}
+use borrow.Author.Tests.{eqb-true, eqb-false, ne-eqb, le-leb, lt-leb}
 use Rattle.laws.specs.Every.{never, both, other, every, every-at}
-use Rattle.kinds.specs.declared.event.Bare.the-variants.{Pair, Other}
-use Rattle.kinds.specs.declared.event.Valued.the-variants.{Coordinate, Other as Valueless}
 use Rattle.kinds.specs.declared.event.Event.{Event}
-use Rattle.kinds.specs.declared.event.Parsed.the-variants.{WellFormed, Malformed}
+use Rattle.kinds.specs.declared.event.Heard.the-variants.{Pair, Coordinate, Quiet, Other, Malformed as Unheard}
 use Rattle.kinds.specs.declared.event.Uses.{Uses}
-use Rattle.kinds.specs.Event.{isBegin, isEnd, usesTagged, usesSize, usesOf, bitSet, isTaggedType, isBare, isValued, isFrame, isQuiet, wellFormed, bareOf, valuedOf, quietOf}
+use Rattle.kinds.specs.Event.{Parsed, WellFormed, Malformed, usesIdx, usesOf, keepsUses, bitSet, isQuiet, wellFormed, parsed, toldApart}
 
 -- ---- what a range of kinds uses, by a test that antt computes over the range
 abbrev pub same : Uses → Uses → Bool
@@ -42,77 +41,80 @@ uses-in from n u kind t h k = same-eq u (usesOf kind) (every-at (λ x. same u (u
 abbrev pair : ℕ → Bool
 pair kind = eqb kind 64 || eqb kind 65
 
--- past the last end, but for xy and coordinate
+-- what the kinds past the last end use, but for xy and coordinate: one test over the range
 pub uses-past : (u : Uses) (kind : ℕ) → every (λ x. pair x || same u (usesOf x)) 50 206 ≡ true → 50 ≤ kind → kind < 256 → (kind ≡ 64 → ⊥) → (kind ≡ 65 → ⊥) → u ≡ usesOf kind
 uses-past u kind t h k a b =
     same-eq u (usesOf kind)
     (other (pair kind) (same u (usesOf kind)) (rw (ne-eqb kind 64 a, ne-eqb kind 65 b)) (every-at (λ x. pair x || same u (usesOf x)) 50 206 kind t h k))
 
--- ---- kind 64: nothing stands beside the pair
-pair-rules : (tagged size z m t tm : Bool) (present : ℕ) (none : Bool) → eqb present 0 ≡ none
-    → (not tagged && eqb present 0 && size && z && m && t && tm)
-    ≡ (true && (false || not tagged) && (false || eqb present 0) && ltb present 16 && (false || size) && true && true && (bitSet present 1 || z) && (bitSet present 2 || m) && (bitSet present 4 || t) && (bitSet present 8 || tm))
-pair-rules true size z m t tm present none h = refl
-pair-rules false true z m t tm present true h = rw (eqb-true present 0 h)
-pair-rules false false z m t tm present true h = rw (eqb-true present 0 h)
-pair-rules false size z m t tm present false h = rw h
+-- ---- an event is judged by what its kind uses, and then told apart by its kind
+module _ (sound : Bool) (e : Event) (uses : Uses) {kept : Bool} (is : uses ≡ usesOf (e .kind)) (keeps : kept ≡ keepsUses e uses) where
+  judged-by : parsed sound e ≡ cond (sound && kept) (WellFormed e) Malformed
+  unfolding parsed wellFormed
+  judged-by = rw (keeps, is)
 
-pub bare-formed : (e : Event) → e .kind ≡ 64 → isBare e ≡ wellFormed e
-unfolding isBare wellFormed
-bare-formed e h = rw h (pair-rules (e .tagged) (eqb (e .size) 0) (eqb (e .z) 0) (eqb (e .m) 0) (eqb (e .t) 0) (eqb (e .tm) 0) (e .present) (eqb (e .present) 0) refl)
+  pub told-malformed : (sound && kept) ≡ false → Unheard ≡ toldApart (parsed sound e)
+  told-malformed h = rw (judged-by, h)
 
-pub bare-other : (formed : Bool) (e : Event) → (e .kind ≡ 64 → ⊥) → Other ≡ bareOf (cond formed (WellFormed e) Malformed)
-bare-other true e h = rw (ne-eqb (e .kind) 64 h)
-bare-other false e h = refl
+  pub told-pair : e .kind ≡ 64 → (sound && kept) ≡ true → Pair (e .x) (e .y) ≡ toldApart (parsed sound e)
+  told-pair kind h = rw (judged-by, h, kind)
 
-pub bare-pair : (formed : Bool) (e : Event) → e .kind ≡ 64 → cond formed (Pair (e .x) (e .y)) Other ≡ bareOf (cond formed (WellFormed e) Malformed)
-bare-pair true e h = rw h
-bare-pair false e h = refl
+  pub told-coordinate : e .kind ≡ 65 → (sound && kept) ≡ true → Coordinate e ≡ toldApart (parsed sound e)
+  told-coordinate kind h = rw (judged-by, h, kind)
 
--- ---- kind 65: nothing but values stand beside it
-valued-rules : (tagged few size z m t tm : Bool) → (not tagged && few && size && z && m && t && tm) ≡ (true && (false || not tagged) && true && few && (false || size) && true && true && z && m && t && tm)
-valued-rules true few size z m t tm = refl
-valued-rules false true true z m t tm = refl
-valued-rules false true false z m t tm = refl
-valued-rules false false size z m t tm = refl
+  pub told-frame : (e .kind ≡ 64 → ⊥) → (e .kind ≡ 65 → ⊥) → (sound && kept) ≡ true → cond (isQuiet e) Quiet (Other e) ≡ toldApart (parsed sound e)
+  told-frame not-xy not-coordinate h = rw (judged-by, h, ne-eqb (e .kind) 64 not-xy, ne-eqb (e .kind) 65 not-coordinate)
 
-pub valued-formed : (e : Event) → e .kind ≡ 65 → isValued e ≡ wellFormed e
-unfolding isValued wellFormed
-valued-formed e h =
-    rw h
-    (valued-rules (e .tagged) (ltb (e .present) 16) (eqb (e .size) 0) (bitSet (e .present) 1 || eqb (e .z) 0) (bitSet (e .present) 2 || eqb (e .m) 0) (bitSet (e .present) 4 || eqb (e .t) 0) (bitSet (e .present) 8 || eqb (e .tm) 0))
+-- ---- past the coordinates there is no kind
+pub no-kind : (kind : ℕ) → 64 ≤ kind → (kind ≡ 64 → ⊥) → (kind ≡ 65 → ⊥) → usesIdx kind ≡ false
+no-kind kind far not-xy not-coordinate =
+    rw (
+      lt-leb kind 12 (omega (arith, far)),
+      lt-leb kind 17 (omega (arith, far)),
+      lt-leb (kind - 32) 12 (omega (arith, far)),
+      lt-leb (kind - 32) 17 (omega (arith, far)),
+      le-leb 1 kind (omega (arith, far)),
+      le-leb 15 kind (omega (arith, far)),
+      le-leb 1 (kind - 32) (omega (arith, far)),
+      le-leb 15 (kind - 32) (omega (arith, far)),
+      ne-eqb kind 64 not-xy,
+      ne-eqb kind 65 not-coordinate,
+    )
 
-pub valued-other : (formed : Bool) (e : Event) → (e .kind ≡ 65 → ⊥) → Valueless ≡ valuedOf (cond formed (WellFormed e) Malformed)
-valued-other true e h = rw (ne-eqb (e .kind) 65 h)
-valued-other false e h = refl
+never-both : (a : Bool) → (a && false) ≡ false
+never-both true = refl
+never-both false = refl
 
-pub valued-coordinate : (formed : Bool) (e : Event) → e .kind ≡ 65 → cond formed (Coordinate e) Valueless ≡ valuedOf (cond formed (WellFormed e) Malformed)
-valued-coordinate true e h = rw h
-valued-coordinate false e h = refl
+unsound : (sound : Bool) (e : Event) → Unheard ≡ toldApart (cond (sound && false) (WellFormed e) Malformed)
+unsound true e = refl
+unsound false e = refl
 
--- ---- any other kind: no pair and no value
-frame-rules : (idx tagged size x y z m t tm : Bool) (present : ℕ) (none : Bool) → eqb present 0 ≡ none
-    → (idx && tagged && eqb present 0 && size && x && y && z && m && t && tm)
-    ≡ (idx && tagged && eqb present 0 && ltb present 16 && size && x && y && (bitSet present 1 || z) && (bitSet present 2 || m) && (bitSet present 4 || t) && (bitSet present 8 || tm))
-frame-rules false tagged size x y z m t tm present none h = refl
-frame-rules true false size x y z m t tm present none h = refl
-frame-rules true true size x y z m t tm present true h = rw (eqb-true present 0 h)
-frame-rules true true size x y z m t tm present false h = rw h
+pub told-unsound : (e : Event) → Unheard ≡ toldApart (parsed false e)
+unfolding parsed
+told-unsound e = refl
 
-pub frame-formed : (e : Event) → (e .kind ≡ 64 → ⊥) → (e .kind ≡ 65 → ⊥) → isFrame e ≡ wellFormed e
-unfolding isFrame wellFormed
-frame-formed e a b =
-    rw (ne-eqb (e .kind) 64 a, ne-eqb (e .kind) 65 b)
-    (frame-rules (isBegin (e .kind) || isEnd (e .kind) || false || false) (usesTagged (e .kind) || not (e .tagged)) (usesSize (e .kind) || eqb (e .size) 0) (eqb (e .x) 0) (eqb (e .y) 0) (eqb (e .z) 0) (eqb (e .m) 0) (eqb (e .t) 0) (eqb (e .tm) 0) (e .present) (eqb (e .present) 0) refl)
+pub told-none : (sound : Bool) (e : Event) (kept : Bool) → 64 ≤ e .kind → (e .kind ≡ 64 → ⊥) → kept ≡ keepsUses e (usesOf 65) → (eqb (e .kind) 65 && kept) ≡ false → Unheard ≡ toldApart (parsed sound e)
+unfolding parsed wellFormed
+told-none sound e kept far not-xy keeps h = by-kind (eqb (e .kind) 65) refl h
+  where
+    by-kind : (b : Bool) → eqb (e .kind) 65 ≡ b → (b && kept) ≡ false → Unheard ≡ toldApart (parsed sound e)
+    by-kind true is none = told-malformed sound e (usesOf 65) (ap usesOf (sym (eqb-true (e .kind) 65 is))) keeps (ap (λ (k : Bool). sound && k) none ∙ never-both sound)
+    by-kind false is none = rw (no-kind (e .kind) far not-xy (eqb-false (e .kind) 65 is)) (unsound sound e)
 
-quiet-kind : (kind : ℕ) → isTaggedType kind ≡ true → (kind ≡ 64 → ⊥) × (kind ≡ 65 → ⊥)
-quiet-kind kind h = (λ is. never (rw is at h), λ is. never (rw is at h))
+-- an event of a kind that uses no present bits has none
+pub none-present : (e : Event) (uses : Uses) → uses .present ≡ false → keepsUses e uses ≡ true → e .present ≡ 0
+none-present e uses unused h =
+    let u : Bool = uses .present in
+    let no-tm = both _ ((u && bitSet (e .present) 8) || eqb (e .tm) 0) h in
+    let no-t = both _ ((u && bitSet (e .present) 4) || eqb (e .t) 0) (no-tm .0) in
+    let no-m = both _ ((u && bitSet (e .present) 2) || eqb (e .m) 0) (no-t .0) in
+    let no-z = both _ ((u && bitSet (e .present) 1) || eqb (e .z) 0) (no-m .0) in
+    let no-y = both _ (uses .pair || eqb (e .y) 0) (no-z .0) in
+    let no-x = both _ (uses .pair || eqb (e .x) 0) (no-y .0) in
+    let no-size = both _ (uses .size || eqb (e .size) 0) (no-x .0) in
+    let few = both _ (ltb (e .present) 16) (no-size .0) in
+    eqb-true (e .present) 0 (other u (eqb (e .present) 0) unused (both (uses .idx && (uses .tagged || not (e .tagged))) (u || eqb (e .present) 0) (few .0) .1))
 
-pub quiet-formed : (e : Event) → isQuiet e ≡ true → isFrame e ≡ wellFormed e
-quiet-formed e h = let k = quiet-kind (e .kind) (both (isTaggedType (e .kind)) (not (e .tagged)) h .0) in frame-formed e (k .0) (k .1)
-
-pub quiet-read : (formed quiet : Bool) (e : Event) → isQuiet e ≡ quiet → (quiet && formed) ≡ quietOf (cond formed (WellFormed e) Malformed)
-quiet-read true true e h = rw h
-quiet-read true false e h = rw h
-quiet-read false true e h = refl
-quiet-read false false e h = refl
+pub xy-alone : (e : Event) → e .kind ≡ 64 → wellFormed e ≡ true → e .present ≡ 0
+unfolding wellFormed
+xy-alone e kind formed = none-present e (usesOf (e .kind)) (rw kind) formed

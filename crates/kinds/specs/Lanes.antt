@@ -25,6 +25,10 @@ spanIn g mL = g .m
 spanIn g tL = g .t
 spanIn g tmL = g .tm
 
+-- what is lent, from the count of words in each pool
+abbrev pub lentWords : ℕ → ℕ → ℕ → ℕ → ℕ → ℕ → Lent
+lentWords xy ends z m t tm = record { xy = xy; ends = ends; z = z; m = m; t = t; tm = tm }
+
 abbrev pub lentIn : Lent → Lane → ℕ
 lentIn l xyL = l .xy
 lentIn l endsL = l .ends

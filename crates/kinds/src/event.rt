@@ -1,10 +1,9 @@
 // Events: what a geometry reader says and a geometry writer hears.
 use crate::flags::Flags;
 ghost use mathlib.Core.Path.{_≡_};
-ghost use mathlib.Core.Bool.{_||_};
-ghost use Prim.Native.Nat.{_+_, _<_};
-ghost use lib.Dec.{eqb};
-ghost use Rattle.kinds.specs.Event.{usesOf, isBare, isValued, isFrame, isQuiet, wellFormed, beginE, endE, xyE, coordinateE, bitSet};
+ghost use mathlib.Core.Bool.{cond};
+ghost use Prim.Native.Nat.{_<_};
+ghost use Rattle.kinds.specs.Event.{usesOf, keepsUses, isQuiet, beginE, endE, xyE, coordinateE, bitSet};
 
 pub struct Event {
     pub kind: u8,
@@ -29,21 +28,22 @@ pub struct Uses {
     pub present: bool,
 }
 
-// Bytes that were read as an event.
-pub enum Parsed {
-    WellFormed(Event),
+// What a record's bytes were heard as.
+pub enum Heard {
+    // An xy event: no more than an index and a pair.
+    Pair { x: u64, y: u64 },
+    // A coordinate event: a pair with the values that are present.
+    Coordinate(Event),
+    // A begin that sets no type: of a line, a polygon or a triangle inside another geometry.
+    Quiet,
+    // Any other event.
+    Other(Event),
     Malformed,
 }
 
-// Bytes that were read as a pair with nothing beside it, by far the commonest event, or as any other.
+// Bytes that were heard as an xy event, or as anything else.
 pub enum Bare {
     Pair { x: u64, y: u64 },
-    Other,
-}
-
-// Bytes that were read as a pair with values beside it, or as any other event.
-pub enum Valued {
-    Coordinate(Event),
     Other,
 }
 
@@ -79,7 +79,7 @@ impl Event {
 
     pub const TRIANGLE_BEGIN: u8 = 17;
 
-    // End kinds carry it plus this.
+    // End kinds carry the type number plus this.
     pub const END: u8 = 32;
 
     pub const POINT_END: u8 = 33;
@@ -132,7 +132,7 @@ impl Event {
         present: false,
     };
 
-    // A LineString's, a Polygon's and a Triangle's.
+    // The begin of a LineString, a Polygon or a Triangle uses `tagged` too.
     pub const TAGGED_BEGIN_USES: Uses = Uses {
         idx: true,
         tagged: true,
@@ -202,31 +202,23 @@ impl Event {
         }
     }
 
-    // Whether it has no more than an index and a pair.
-    pub fn is_bare(self) -> bool
-        ensures { λ r. ⌜ r ≡ isBare self ⌝ }
-    {
-        !self.tagged
-            & (self.present == 0)
-            & (self.size == 0)
-            & (self.z == 0)
-            & (self.m == 0)
-            & (self.t == 0)
-            & (self.tm == 0)
-    }
-
-    // Whether it has no more than an index, a pair and the values that are present.
-    pub fn is_valued(self) -> bool
-        ensures { λ r. ⌜ r ≡ isValued self ⌝ }
+    // Whether each field that is not used, and each value that is not present, is zero. What does not use idx is no kind.
+    pub fn keeps(self, uses: Uses) -> bool
+        ensures { λ r. ⌜ r ≡ keepsUses self uses ⌝ }
     {
         let present = self.present;
-        !self.tagged
+        let values = uses.present;
+        uses.idx
+            & (uses.tagged | !self.tagged)
+            & (values | (present == 0))
             & (present < 16)
-            & (self.size == 0)
-            & (bit_set(present, Flags::Z) | (self.z == 0))
-            & (bit_set(present, Flags::M) | (self.m == 0))
-            & (bit_set(present, Flags::T) | (self.t == 0))
-            & (bit_set(present, Flags::TM) | (self.tm == 0))
+            & (uses.size | (self.size == 0))
+            & (uses.pair | (self.x == 0))
+            & (uses.pair | (self.y == 0))
+            & ((values & bit_set(present, Flags::Z)) | (self.z == 0))
+            & ((values & bit_set(present, Flags::M)) | (self.m == 0))
+            & ((values & bit_set(present, Flags::T)) | (self.t == 0))
+            & ((values & bit_set(present, Flags::TM)) | (self.tm == 0))
     }
 
     // Whether it is a begin that sets no type: of a line, a polygon or a triangle, and not tagged.
@@ -240,51 +232,41 @@ impl Event {
             & !self.tagged
     }
 
-    // Whether its kind is a begin or an end, and it has no more than an index, a tag and a size, each where the kind uses it.
-    pub fn is_frame(self) -> bool
-        ensures { λ r. ⌜ r ≡ isFrame self ⌝ }
+    // A begin or an end, of which one that sets no type is told from the others.
+    pub fn told_frame(self) -> Heard
+        ensures { λ r. ⌜ r ≡ cond (isQuiet self) Heard.Quiet (Heard.Other self) ⌝ }
     {
-        let uses = Event::uses(self.kind);
-        uses.idx
-            & (uses.tagged | !self.tagged)
-            & (self.present == 0)
-            & (uses.size | (self.size == 0))
-            & (self.x == 0)
-            & (self.y == 0)
-            & (self.z == 0)
-            & (self.m == 0)
-            & (self.t == 0)
-            & (self.tm == 0)
-    }
-
-    // Whether its kind is one, and each field that the kind does not use, and each absent value, is zero.
-    pub fn well_formed(self) -> bool
-        ensures { λ r. ⌜ r ≡ wellFormed self ⌝ }
-    {
-        let kind = self.kind;
-        match kind {
-            Event::XY => self.is_bare(),
-            Event::COORDINATE => self.is_valued(),
-            _ => self.is_frame(),
+        if self.is_quiet() {
+            Heard::Quiet
+        } else {
+            Heard::Other(self)
         }
     }
+
+    // Every field zero. A constructor sets those that its kind uses.
+    const UNSET: Event = Event {
+        kind: 0,
+        tagged: false,
+        present: 0,
+        size: 0,
+        idx: 0,
+        x: 0,
+        y: 0,
+        z: 0,
+        m: 0,
+        t: 0,
+        tm: 0,
+    };
 
     pub fn begin(kind: u8, tagged: bool, size: u32, idx: u32) -> Event
         ensures { λ r. ⌜ r ≡ beginE kind tagged size idx ⌝ }
     {
-        Event {
-            kind,
-            tagged,
-            present: 0,
-            size,
-            idx,
-            x: 0,
-            y: 0,
-            z: 0,
-            m: 0,
-            t: 0,
-            tm: 0,
-        }
+        let mut e = Event::UNSET;
+        e.kind = kind;
+        e.tagged = tagged;
+        e.size = size;
+        e.idx = idx;
+        e
     }
 
     // The end of a geometry of a type.
@@ -292,37 +274,22 @@ impl Event {
         requires { ⌜ kind < 32 ⌝ }
         ensures { λ r. ⌜ r ≡ endE kind tagged idx ⌝ }
     {
-        Event {
-            kind: kind + Event::END,
-            tagged,
-            present: 0,
-            size: 0,
-            idx,
-            x: 0,
-            y: 0,
-            z: 0,
-            m: 0,
-            t: 0,
-            tm: 0,
-        }
+        let mut e = Event::UNSET;
+        e.kind = kind + Event::END;
+        e.tagged = tagged;
+        e.idx = idx;
+        e
     }
 
     pub fn xy(x: u64, y: u64, idx: u32) -> Event
         ensures { λ r. ⌜ r ≡ xyE x y idx ⌝ }
     {
-        Event {
-            kind: Event::XY,
-            tagged: false,
-            present: 0,
-            size: 0,
-            idx,
-            x,
-            y,
-            z: 0,
-            m: 0,
-            t: 0,
-            tm: 0,
-        }
+        let mut e = Event::UNSET;
+        e.kind = Event::XY;
+        e.idx = idx;
+        e.x = x;
+        e.y = y;
+        e
     }
 
     pub fn coordinate(
@@ -337,19 +304,17 @@ impl Event {
     ) -> Event
         ensures { λ r. ⌜ r ≡ coordinateE x y present z m t tm idx ⌝ }
     {
-        Event {
-            kind: Event::COORDINATE,
-            tagged: false,
-            present,
-            size: 0,
-            idx,
-            x,
-            y,
-            z,
-            m,
-            t,
-            tm,
-        }
+        let mut e = Event::UNSET;
+        e.kind = Event::COORDINATE;
+        e.present = present;
+        e.idx = idx;
+        e.x = x;
+        e.y = y;
+        e.z = z;
+        e.m = m;
+        e.t = t;
+        e.tm = tm;
+        e
     }
 }
 

@@ -1,4 +1,6 @@
 // A geometry record, its lists as stretches of the lent pools: no layout shows.
+ghost use mathlib.Core.Path.{_≡_};
+ghost use Rattle.kinds.specs.Lanes.{lentWords};
 
 // Where a list stands in its pool.
 pub enum Span {
@@ -32,6 +34,21 @@ pub struct Lent {
     pub m: usize,
     pub t: usize,
     pub tm: usize,
+}
+
+impl Lent {
+    pub fn new(xy: usize, ends: usize, z: usize, m: usize, t: usize, tm: usize) -> Lent
+        ensures { λ r. ⌜ r ≡ lentWords xy ends z m t tm ⌝ }
+    {
+        Lent {
+            xy,
+            ends,
+            z,
+            m,
+            t,
+            tm,
+        }
+    }
 }
 
 // A record that has an xy list and no other, or any other record.

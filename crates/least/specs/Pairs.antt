@@ -10,11 +10,12 @@ use Rattle.laws.specs.Script.{Script, stop, say, _⨟_}
 use Rattle.kinds.specs.Event.{endE, xyE, coordinateE}
 use Rattle.kinds.specs.declared.event.Event.{Event}
 use Rattle.kinds.specs.declared.flags.Flags.{Flags}
-use Rattle.lines.specs.Coords.{Lanes, dropped, tails, multi, coordE, coordsS, betweenS}
+use Rattle.geometry.specs.Coordinate.{multi, coordE}
+use Rattle.coords.specs.Coords.{Lanes, dropped, tails, coordsS, betweenS}
 use Rattle.lines.specs.Lines.{flatO}
-use Rattle.format.specs.Geometry.{Coord}
-use Rattle.format.specs.Events.{shown, each, seenAs, coordOf}
-use Rattle.format.specs.Told.{told, framed-then}
+use Rattle.geometry.specs.Geometry.{Coord}
+use Rattle.geometry.specs.Events.{shown, each, seenAs, coordOf}
+use Rattle.geometry.specs.Told.{told, framed-then}
 use Rattle.least.specs.Size.{count}
 use Rattle.least.specs.Said.{rest, kinds, mute}
 use Rattle.least.specs.Values.{Value, laneIn, tally, tally-most, tally-append, of-tails, count-dropped, pair-next, pair-gives}

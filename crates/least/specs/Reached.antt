@@ -71,7 +71,7 @@ module _ (get : ℕ → Option Rec) where
       let b = part-above N m n sound p in
       or-right (eqb n 0) _ (any-at _ n m (b .0) (rw (p, reached-in N m steps sound (omega (arith, b .0)) r)))
 
-  -- and nothing else is
+  -- nothing is found but what is reached
   pub reached-only : (steps n : ℕ) → reached get steps n ≡ true → Reached get n
   unfolding reached
   reached-only zero n h = rw (eqb-true n 0 h) root

@@ -12,13 +12,13 @@ use Rattle.kinds.specs.Event.{beginE, endE}
 use Rattle.kinds.specs.declared.event.Event.{Event}
 use Rattle.kinds.specs.declared.flags.Flags.{Flags}
 use Rattle.store.specs.Lists.{Rec}
-use Rattle.lines.specs.Coords.{coordsOf}
+use Rattle.coords.specs.Coords.{coordsOf}
 use Rattle.lines.specs.Lines.{orNone, flatS, polygonS, pointS}
 use Rattle.reader.specs.Reading.{partsS, spanS, found, polygonPart, kindS, geometryS, rootS}
-use Rattle.format.specs.Geometry.{Coord, Line, Rings, Simple, point, lineString, polygon, multiPoint, multiLineString, multiPolygon, circularString, compoundCurve, curvePolygon, multiCurve, multiSurface, polyhedralSurface, tin, triangle, typeOf}
-use Rattle.format.specs.Events.{each, group, coordOf, lineOf, simpleOf}
+use Rattle.geometry.specs.Geometry.{Coord, Line, Rings, Simple, point, lineString, polygon, multiPoint, multiLineString, multiPolygon, circularString, compoundCurve, curvePolygon, multiCurve, multiSurface, polyhedralSurface, tin, triangle, typeOf}
+use Rattle.geometry.specs.Events.{each, group, coordOf, lineOf, simpleOf}
 use Rattle.format.specs.Format.{joined}
-use Rattle.format.specs.Told.{told, then-done}
+use Rattle.geometry.specs.Told.{told, then-done}
 use Rattle.least.specs.Size.{count, numbers, weight}
 use Rattle.least.specs.Sums.{weights, spanWeight}
 use Rattle.least.specs.Least.{sum, words, ofPairs, ends, ofLines, leastOf}

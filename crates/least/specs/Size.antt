@@ -46,7 +46,7 @@ module _ (get : ℕ → Option Rec) where
   unfoldable pub share : ℕ → ℕ → ℕ
   share steps n = cond (reached steps n) (weight (get n)) 0
 
--- of the tree in a table of N records
+-- the size of the tree in a table of N records
 unfoldable pub sizeOf : ℕ → (ℕ → Option Rec) → ℕ
 sizeOf N get = sumBelow N (share get N)
 

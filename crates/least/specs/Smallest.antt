@@ -7,12 +7,12 @@ use native.Mathlib.Omega.{arith}
 use Rattle.kinds.specs.declared.flags.Flags.{Flags}
 use Rattle.store.specs.Lists.{Pools, Rec, recordWith}
 use Rattle.reader.specs.Reading.{rootS, readS}
-use Rattle.writer.specs.declared.state.Typing.{Typing}
-use Rattle.written.specs.Writer.{tree}
-use Rattle.written.specs.Tree.{Holds}
-use Rattle.format.specs.Geometry.{Simple, typeOf}
-use Rattle.format.specs.Events.{eventsOf}
-use Rattle.format.specs.Told.{told}
+use Rattle.writing.specs.declared.state.Typing.{Typing}
+use Rattle.writer_model.specs.Writer.{tree}
+use Rattle.writer_model.specs.Tree.{Holds}
+use Rattle.geometry.specs.Geometry.{Simple, typeOf}
+use Rattle.geometry.specs.Events.{eventsOf}
+use Rattle.geometry.specs.Told.{told}
 use Rattle.format.specs.Writable.{Held, Writable}
 use Rattle.format.specs.Writes.{ending}
 use Rattle.least.specs.Size.{sizeOf, Sound}
@@ -33,15 +33,15 @@ module _ (F : Flags) (s : Simple) where
       go (some r) e h = omega (arith, of-root F s get r h, size-least get N r (r .parts) sound e refl)
 
   -- in whatever table and pools
-  pub table-at-least : (T : List ℕ) (P : Pools) → readS F (recordWith T P) (typeOf s) ≡ told (eventsOf F 0 s) → leastOf F s ≤ treeSize T P
+  pub table-at-least : (table : List ℕ) (P : Pools) → readS F (recordWith table P) (typeOf s) ≡ told (eventsOf F 0 s) → leastOf F s ≤ treeSize table P
   unfolding treeSize
-  table-at-least T P h = at-least 4095 (recordWith T P) (table-sound T P) h
+  table-at-least table P h = at-least 4095 (recordWith table P) (table-sound table P) h
 
   -- the tree that the writer leaves, on any memory that holds it
-  pub table-at-most : (k : Held) (h : Typing) (T : List ℕ) (P : Pools) → Writable F s k → Holds (recordWith T P) 0 (tree (ending h k)) → treeSize T P ≤ leastOf F s
+  pub table-at-most : (k : Held) (h : Typing) (table : List ℕ) (P : Pools) → Writable F s k → Holds (recordWith table P) 0 (tree (ending h k)) → treeSize table P ≤ leastOf F s
   unfolding treeSize
-  table-at-most k h T P q o = written-least F h 4096 (recordWith T P) s k q o
+  table-at-most k h table P q o = written-least F h 4096 (recordWith table P) s k q o
 
   -- the one is no larger than the other, in whatever table and pools each stands
-  pub smallest : (k : Held) (h : Typing) (T T′ : List ℕ) (P P′ : Pools) → Writable F s k → Holds (recordWith T P) 0 (tree (ending h k)) → readS F (recordWith T′ P′) (typeOf s) ≡ told (eventsOf F 0 s) → treeSize T P ≤ treeSize T′ P′
-  smallest k h T T′ P P′ q o e = omega (arith, table-at-most k h T P q o, table-at-least T′ P′ e)
+  pub smallest : (k : Held) (h : Typing) (table table′ : List ℕ) (P P′ : Pools) → Writable F s k → Holds (recordWith table P) 0 (tree (ending h k)) → readS F (recordWith table′ P′) (typeOf s) ≡ told (eventsOf F 0 s) → treeSize table P ≤ treeSize table′ P′
+  smallest k h table table′ P P′ q o e = omega (arith, table-at-most k h table P q o, table-at-least table′ P′ e)

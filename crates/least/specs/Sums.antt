@@ -6,7 +6,7 @@ use native.Mathlib.Omega.{arith}
 use Rattle.store.specs.Lists.{Rec}
 use Rattle.least.specs.Size.{weight, sumBelow}
 
--- of c numbers from n on
+-- the sum of c numbers from n on
 abbrev pub sumFrom : (ℕ → ℕ) → ℕ → ℕ → ℕ
 sumFrom f zero n = 0
 sumFrom f (suc c) n = f n + sumFrom f c (n + 1)

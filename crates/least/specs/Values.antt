@@ -12,9 +12,10 @@ use Rattle.kinds.specs.Event.{xyE, coordinateE}
 use Rattle.kinds.specs.declared.event.Event.{Event}
 use Rattle.kinds.specs.declared.flags.Flags.{Flags}
 use Rattle.store.specs.Lists.{Rec}
-use Rattle.lines.specs.Coords.{Lanes, headOf, tailOf, dropO, dropped, tails, multi, seen, coordsOf, is, bits, coordE, taken, coordinateS, pairS}
-use Rattle.format.specs.Geometry.{Coord}
-use Rattle.format.specs.Events.{shown}
+use Rattle.geometry.specs.Coordinate.{multi, is, bits, coordE}
+use Rattle.coords.specs.Coords.{Lanes, headOf, tailOf, dropO, dropped, tails, seen, coordsOf, taken, coordinateS, pairS}
+use Rattle.geometry.specs.Geometry.{Coord}
+use Rattle.geometry.specs.Events.{shown}
 use Rattle.least.specs.Size.{count}
 use Rattle.least.specs.Least.{sum, there, words}
 use Rattle.least.specs.Said.{said, rest, kinds, mute}

@@ -14,13 +14,13 @@ use Rattle.laws.specs.Script.{Script, stop, _⨟_}
 use Rattle.laws.specs.Framed.{framed}
 use Rattle.kinds.specs.Event.{beginE, endE}
 use Rattle.kinds.specs.declared.event.Event.{Event}
-use Rattle.lines.specs.declared.pairs.Seen.{Seen}
-use Rattle.lines.specs.declared.coords.Window.{Window}
-use Rattle.lines.specs.Coords.{Lanes, Coords, dropO, dropped, coordsS, betweenS}
-use Rattle.lines.specs.Seen.{when, lanesIn, coordsIn, windowS, Windowed}
-use Rattle.lines.specs.Lines.{badEnd, stretchS, linesS, flatO, flatS, ringsS, stretchesS, multiLineS, pointS, ifThere, triangleAt, trianglesS, triangleS}
-use Rattle.lines.specs.PairLaws.{or-false}
-use Rattle.lines.specs.CoordLaws.{drop-one}
+use Rattle.coords.specs.declared.pairs.Seen.{Seen}
+use Rattle.coords.specs.declared.window.Window.{Window}
+use Rattle.coords.specs.Coords.{Lanes, Coords, dropO, dropped, coordsS, betweenS}
+use Rattle.coords.specs.Seen.{when, lanesIn, coordsIn, windowS, Windowed}
+use Rattle.lines.specs.Lines.{badEnd, stretchS, linesS, flatO, flatS, ringsS, stretchesS, multiLineS, pointS, ifThere}
+use Rattle.coords.specs.PairLaws.{or-false}
+use Rattle.coords.specs.CoordLaws.{drop-one}
 
 -- ---- ends
 pub good-end : (before end : ℕ) {bad : Bool} → bad ≡ badEnd before end → bad ≡ false → (before ≤ end) × (end < 2147483648)
@@ -76,7 +76,7 @@ module _ (S : Seen) (xy z m t tm : List ℕ) (kind : ℕ) (tagged : Bool) (idx :
           ∙ ap (λ (L : Lanes). framed (beginE kind tagged (length xy / 2) idx) (coordsS (S .many) L xy 0 0) (endE kind tagged idx)) (dropped-none (lanesIn S z m t tm)))
       go false h = absurd (never (sym h))
 
--- ---- lines and triangles, by the end at i
+-- ---- lines, by the end at i
 module _ (C : Coords) (ends : List ℕ) (before i idx : ℕ) where
   pub lines-end : length ends ≤ i → linesS C (drop i ends) before idx ≡ stop 0
   unfolding linesS
@@ -86,15 +86,7 @@ module _ (C : Coords) (ends : List ℕ) (before i idx : ℕ) where
   unfolding linesS
   lines-next h = rw (drop-one ends i h)
 
-  pub triangles-end : (tagged : Bool) → length ends ≤ i → trianglesS C (drop i ends) tagged before idx ≡ stop 0
-  unfolding trianglesS
-  triangles-end tagged h = rw (drop-of-length-le ends h)
-
-  pub triangles-next : (tagged : Bool) → i < length ends → trianglesS C (drop i ends) tagged before idx ≡ triangleAt C tagged before (getD ends i 0) idx ⨟ trianglesS C (drop (i + 1) ends) tagged (getD ends i 0) (idx + 1)
-  unfolding trianglesS
-  triangles-next tagged h = rw (drop-one ends i h)
-
--- ---- with 0 or 1 ends, and with more
+-- ---- a record with 0 or 1 ends, and with more
 module _ (C : Coords) (ends : List ℕ) where
   pub rings-single : length ends ≤ 1 → ringsS C ends ≡ flatS C 2 false 0
   unfolding ringsS
@@ -104,7 +96,7 @@ module _ (C : Coords) (ends : List ℕ) where
   unfolding ringsS
   rings-many h = rw (lt-leb (length ends) 1 h)
 
-not-and : (p q : Bool) → (not p && q) ≡ true → (p ≡ false) × (q ≡ true)
+pub not-and : (p q : Bool) → (not p && q) ≡ true → (p ≡ false) × (q ≡ true)
 not-and true q h = absurd (never h)
 not-and false q h = (refl, h)
 
@@ -112,10 +104,6 @@ module _ (S : Seen) (xy z m t tm ends : List ℕ) (idx : ℕ) {nothing : Bool} (
   pub multi-nothing : nothing ≡ true → multiLineS (coordsIn S xy z m t tm) ends idx ≡ stop 0
   unfolding multiLineS
   multi-nothing h = let t = not-and (S .xy) (leb (length ends) 1) (sym e ∙ h) in rw (t .1, t .0)
-
-  pub triangle-nothing : (tagged : Bool) → nothing ≡ true → triangleS (coordsIn S xy z m t tm) ends tagged idx ≡ stop 0
-  unfolding triangleS
-  triangle-nothing tagged h = let t = not-and (S .xy) (leb (length ends) 1) (sym e ∙ h) in rw (t .1, t .0)
 
   pub multi-some : nothing ≡ false → multiLineS (coordsIn S xy z m t tm) ends idx ≡ stretchesS 5 false idx (coordsIn S xy z m t tm) ends
   unfolding multiLineS
@@ -126,15 +114,3 @@ module _ (S : Seen) (xy z m t tm ends : List ℕ) (idx : ℕ) {nothing : Bool} (
       go true false h = refl
       go false true h = absurd (never (sym h))
       go false false h = refl
-
-  pub triangle-single : (tagged : Bool) → nothing ≡ false → length ends ≤ 1 → triangleS (coordsIn S xy z m t tm) ends tagged idx ≡ stretchesS 17 tagged idx (coordsIn S xy z m t tm) ends
-  unfolding triangleS
-  triangle-single tagged h k = rw (le-leb (length ends) 1 k) (go (S .xy) (sym e ∙ h))
-    where
-      go : (there : Bool) → (not there && leb (length ends) 1) ≡ false → ifThere (when there xy) (stretchesS 17 tagged idx (coordsIn S xy z m t tm) ends) ≡ stretchesS 17 tagged idx (coordsIn S xy z m t tm) ends
-      go true h = refl
-      go false h = absurd (never (sym h ∙ le-leb (length ends) 1 k))
-
-  pub triangle-many : (tagged : Bool) → 1 < length ends → triangleS (coordsIn S xy z m t tm) ends tagged idx ≡ trianglesS (coordsIn S xy z m t tm) ends tagged 0 0
-  unfolding triangleS
-  triangle-many tagged k = rw (lt-leb (length ends) 1 k)

@@ -11,7 +11,7 @@ use Rattle.kinds.specs.Event.{beginE, endE}
 use Rattle.kinds.specs.declared.event.Event.{Event}
 use Rattle.kinds.specs.declared.flags.Flags.{Flags}
 use Rattle.store.specs.Lists.{Rec}
-use Rattle.lines.specs.Coords.{Coords, Lanes, coordsOf, coordsS, betweenS}
+use Rattle.coords.specs.Coords.{Coords, Lanes, coordsOf, coordsS, betweenS}
 
 -- an absent list of ends has no end
 abbrev pub orNone : Option (List ℕ) → List ℕ

@@ -1,10 +1,9 @@
-// The walks over a record's own lists: its pairs, its lines, and what is made of them.
-mod coords;
+// The lines of a record: stretches of its pairs from each end to the next, or the whole list as one.
 mod lines;
-mod lone;
-mod own;
-mod pairs;
 
-pub use lone::read_lone_ring;
-pub use own::Own;
-pub use own::read_own;
+pub use lines::nothing_there;
+pub use lines::read_line;
+pub use lines::read_multilinestring;
+pub use lines::read_multilinestring_part;
+pub use lines::read_stretches;
+pub use lines::stretches;

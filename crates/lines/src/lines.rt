@@ -1,9 +1,9 @@
-// Lines of a record: a stretch from each end to the next, or the whole list as one; and what is made of lines.
-use crate::coords::Frame;
-use crate::coords::Window;
-use crate::coords::between;
-use crate::coords::read_window;
-use crate::pairs::Seen;
+// Lines of a record: a stretch from each end to the next, or the whole list as one; a Polygon and a MultiLineString of them.
+use coords::Frame;
+use coords::Seen;
+use coords::Window;
+use coords::between;
+use coords::read_window;
 use kinds::answer::Answer;
 use kinds::event::Event;
 use kinds::geometry_type;
@@ -15,8 +15,8 @@ ghost use lib.Dec.{leb};
 ghost use lib.ListN.{length};
 ghost use Rattle.laws.specs.Script.{out, run};
 ghost use Rattle.store.specs.Log.{events};
-ghost use Rattle.lines.specs.Seen.{coordsIn};
-ghost use Rattle.lines.specs.Lines.{badEnd, stretchS, linesS, flatS, ringsS, stretchesS, multiLineS, triangleAt, trianglesS, triangleS, tinS};
+ghost use Rattle.coords.specs.Seen.{coordsIn};
+ghost use Rattle.lines.specs.Lines.{badEnd, stretchS, linesS, flatS, ringsS, stretchesS, multiLineS};
 
 fn bad_end(before: u32, end: u32) -> bool
     ensures { λ r. ⌜ r ≡ badEnd before end ⌝ }
@@ -25,7 +25,7 @@ fn bad_end(before: u32, end: u32) -> bool
 }
 
 // How many stretches so many ends make.
-fn stretches(ends: usize) -> u32
+pub fn stretches(ends: usize) -> u32
     requires { ⌜ ends ≤ 65536 ⌝ }
     ensures { λ r. ⌜ r ≡ cond (leb ends 1) 1 ends ⌝ }
 {
@@ -33,14 +33,14 @@ fn stretches(ends: usize) -> u32
 }
 
 // Whether a MultiLineString or a Triangle has nothing to say: no list to be its one stretch.
-fn nothing_there(there: bool, ends: usize) -> bool
+pub fn nothing_there(there: bool, ends: usize) -> bool
     ensures { λ r. ⌜ r ≡ (not there && leb ends 1) ⌝ }
 {
     !there & (ends <= 1)
 }
 
 // The line from pair `before` to pair `end`.
-fn read_multilinestring_part(
+pub fn read_multilinestring_part(
     log: &mut [u8],
     count: usize,
     xy: &[u64],
@@ -54,7 +54,8 @@ fn read_multilinestring_part(
     idx: u32,
 ) -> Answer
     requires { ⌜ length (now xy) ≤ 131072 ⌝ }
-    ensures { λ r. ⌜ run events (stretchS (coordsIn seen (now (xy .entry)) (now (z .entry)) (now (m .entry)) (now (t .entry)) (now (tm .entry))) before end idx) (now (log .entry)) count ≡ out (r .number) (r .count) (now (log .exit)) ⌝ }
+    ensures { λ r. let C = coordsIn seen (now (xy .entry)) (now (z .entry)) (now (m .entry)) (now (t .entry)) (now (tm .entry)) in
+        ⌜ run events (stretchS C before end idx) (now (log .entry)) count ≡ out (r .number) (r .count) (now (log .exit)) ⌝ }
 {
     if bad_end(before, end) {
         return Answer {
@@ -84,7 +85,8 @@ fn read_lines(
     seen: Seen,
 ) -> Answer
     requires { ⌜ (length (now xy) ≤ 131072) × (length (now ends) ≤ 65536) ⌝ }
-    ensures { λ r. ⌜ run events (linesS (coordsIn seen (now (xy .entry)) (now (z .entry)) (now (m .entry)) (now (t .entry)) (now (tm .entry))) (now (ends .entry)) 0 0) (now (log .entry)) count ≡ out (r .number) (r .count) (now (log .exit)) ⌝ }
+    ensures { λ r. let C = coordsIn seen (now (xy .entry)) (now (z .entry)) (now (m .entry)) (now (t .entry)) (now (tm .entry)) in
+        ⌜ run events (linesS C (now (ends .entry)) 0 0) (now (log .entry)) count ≡ out (r .number) (r .count) (now (log .exit)) ⌝ }
 {
     let mut said = count;
     let mut before: u32 = 0;
@@ -120,7 +122,8 @@ pub fn read_line(
     idx: u32,
 ) -> Answer
     requires { ⌜ (length (now xy) ≤ 131072) × (kind < 32) ⌝ }
-    ensures { λ r. ⌜ run events (flatS (coordsIn seen (now (xy .entry)) (now (z .entry)) (now (m .entry)) (now (t .entry)) (now (tm .entry))) kind tagged idx) (now (log .entry)) count ≡ out (r .number) (r .count) (now (log .exit)) ⌝ }
+    ensures { λ r. let C = coordsIn seen (now (xy .entry)) (now (z .entry)) (now (m .entry)) (now (t .entry)) (now (tm .entry)) in
+        ⌜ run events (flatS C kind tagged idx) (now (log .entry)) count ≡ out (r .number) (r .count) (now (log .exit)) ⌝ }
 {
     if !seen.xy {
         return Answer {
@@ -156,7 +159,8 @@ fn read_rings(
     seen: Seen,
 ) -> Answer
     requires { ⌜ (length (now xy) ≤ 131072) × (length (now ends) ≤ 65536) ⌝ }
-    ensures { λ r. ⌜ run events (ringsS (coordsIn seen (now (xy .entry)) (now (z .entry)) (now (m .entry)) (now (t .entry)) (now (tm .entry))) (now (ends .entry))) (now (log .entry)) count ≡ out (r .number) (r .count) (now (log .exit)) ⌝ }
+    ensures { λ r. let C = coordsIn seen (now (xy .entry)) (now (z .entry)) (now (m .entry)) (now (t .entry)) (now (tm .entry)) in
+        ⌜ run events (ringsS C (now (ends .entry))) (now (log .entry)) count ≡ out (r .number) (r .count) (now (log .exit)) ⌝ }
 {
     if ends.len() <= 1 {
         read_line(
@@ -193,7 +197,8 @@ pub fn read_stretches(
     idx: u32,
 ) -> Answer
     requires { ⌜ (length (now xy) ≤ 131072) × (length (now ends) ≤ 65536) × (kind < 32) ⌝ }
-    ensures { λ r. ⌜ run events (stretchesS kind tagged idx (coordsIn seen (now (xy .entry)) (now (z .entry)) (now (m .entry)) (now (t .entry)) (now (tm .entry))) (now (ends .entry))) (now (log .entry)) count ≡ out (r .number) (r .count) (now (log .exit)) ⌝ }
+    ensures { λ r. let C = coordsIn seen (now (xy .entry)) (now (z .entry)) (now (m .entry)) (now (t .entry)) (now (tm .entry)) in
+        ⌜ run events (stretchesS kind tagged idx C (now (ends .entry))) (now (log .entry)) count ≡ out (r .number) (r .count) (now (log .exit)) ⌝ }
 {
     let size = stretches(ends.len());
     let b = store::say(log, count, Event::begin(kind, tagged, size, idx));
@@ -220,7 +225,8 @@ pub fn read_multilinestring(
     idx: u32,
 ) -> Answer
     requires { ⌜ (length (now xy) ≤ 131072) × (length (now ends) ≤ 65536) ⌝ }
-    ensures { λ r. ⌜ run events (multiLineS (coordsIn seen (now (xy .entry)) (now (z .entry)) (now (m .entry)) (now (t .entry)) (now (tm .entry))) (now (ends .entry)) idx) (now (log .entry)) count ≡ out (r .number) (r .count) (now (log .exit)) ⌝ }
+    ensures { λ r. let C = coordsIn seen (now (xy .entry)) (now (z .entry)) (now (m .entry)) (now (t .entry)) (now (tm .entry)) in
+        ⌜ run events (multiLineS C (now (ends .entry)) idx) (now (log .entry)) count ≡ out (r .number) (r .count) (now (log .exit)) ⌝ }
 {
     if nothing_there(seen.xy, ends.len()) {
         return Answer {
@@ -230,137 +236,4 @@ pub fn read_multilinestring(
     }
     let kind = geometry_type::MULTI_LINE_STRING;
     read_stretches(log, count, xy, ends, z, m, t, tm, seen, kind, false, idx)
-}
-
-// The triangle between two ends of a list of them.
-fn read_triangle_at(
-    log: &mut [u8],
-    count: usize,
-    xy: &[u64],
-    z: &[u64],
-    m: &[u64],
-    t: &[u64],
-    tm: &[u64],
-    seen: Seen,
-    tagged: bool,
-    before: u32,
-    end: u32,
-    idx: u32,
-) -> Answer
-    requires { ⌜ length (now xy) ≤ 131072 ⌝ }
-    ensures { λ r. ⌜ run events (triangleAt (coordsIn seen (now (xy .entry)) (now (z .entry)) (now (m .entry)) (now (t .entry)) (now (tm .entry))) tagged before end idx) (now (log .entry)) count ≡ out (r .number) (r .count) (now (log .exit)) ⌝ }
-{
-    let b = store::say(
-        log,
-        count,
-        Event::begin(geometry_type::TRIANGLE, tagged, 1, idx),
-    );
-    if b.number != refusal::DONE {
-        return b;
-    }
-    let r = read_multilinestring_part(log, b.count, xy, z, m, t, tm, seen, before, end, 0);
-    if r.number != refusal::DONE {
-        return r;
-    }
-    store::say(
-        log,
-        r.count,
-        Event::end(geometry_type::TRIANGLE, tagged, idx),
-    )
-}
-
-fn read_triangles(
-    log: &mut [u8],
-    count: usize,
-    xy: &[u64],
-    ends: &[u32],
-    z: &[u64],
-    m: &[u64],
-    t: &[u64],
-    tm: &[u64],
-    seen: Seen,
-    tagged: bool,
-) -> Answer
-    requires { ⌜ (length (now xy) ≤ 131072) × (length (now ends) ≤ 65536) ⌝ }
-    ensures { λ r. ⌜ run events (trianglesS (coordsIn seen (now (xy .entry)) (now (z .entry)) (now (m .entry)) (now (t .entry)) (now (tm .entry))) (now (ends .entry)) tagged 0 0) (now (log .entry)) count ≡ out (r .number) (r .count) (now (log .exit)) ⌝ }
-{
-    let mut said = count;
-    let mut before: u32 = 0;
-    let mut i: usize = 0;
-    while i < ends.len() {
-        let end = ends[i];
-        let idx = i as u32;
-        let r = read_triangle_at(log, said, xy, z, m, t, tm, seen, tagged, before, end, idx);
-        if r.number != refusal::DONE {
-            return r;
-        }
-        said = r.count;
-        before = end;
-        i += 1;
-    }
-    Answer {
-        number: refusal::DONE,
-        count: said,
-    }
-}
-
-pub fn read_triangle(
-    log: &mut [u8],
-    count: usize,
-    xy: &[u64],
-    ends: &[u32],
-    z: &[u64],
-    m: &[u64],
-    t: &[u64],
-    tm: &[u64],
-    seen: Seen,
-    tagged: bool,
-    idx: u32,
-) -> Answer
-    requires { ⌜ (length (now xy) ≤ 131072) × (length (now ends) ≤ 65536) ⌝ }
-    ensures { λ r. ⌜ run events (triangleS (coordsIn seen (now (xy .entry)) (now (z .entry)) (now (m .entry)) (now (t .entry)) (now (tm .entry))) (now (ends .entry)) tagged idx) (now (log .entry)) count ≡ out (r .number) (r .count) (now (log .exit)) ⌝ }
-{
-    if nothing_there(seen.xy, ends.len()) {
-        return Answer {
-            number: refusal::DONE,
-            count,
-        };
-    }
-    if ends.len() <= 1 {
-        let kind = geometry_type::TRIANGLE;
-        read_stretches(log, count, xy, ends, z, m, t, tm, seen, kind, tagged, idx)
-    } else {
-        read_triangles(log, count, xy, ends, z, m, t, tm, seen, tagged)
-    }
-}
-
-pub fn read_tin(
-    log: &mut [u8],
-    count: usize,
-    xy: &[u64],
-    ends: &[u32],
-    z: &[u64],
-    m: &[u64],
-    t: &[u64],
-    tm: &[u64],
-    seen: Seen,
-    idx: u32,
-) -> Answer
-    requires { ⌜ (length (now xy) ≤ 131072) × (length (now ends) ≤ 65536) ⌝ }
-    ensures { λ r. ⌜ run events (tinS (coordsIn seen (now (xy .entry)) (now (z .entry)) (now (m .entry)) (now (t .entry)) (now (tm .entry))) (now (ends .entry)) idx) (now (log .entry)) count ≡ out (r .number) (r .count) (now (log .exit)) ⌝ }
-{
-    let size = stretches(ends.len());
-    let b = store::say(
-        log,
-        count,
-        Event::begin(geometry_type::TIN, false, size, idx),
-    );
-    if b.number != refusal::DONE {
-        return b;
-    }
-    let r = read_triangle(log, b.count, xy, ends, z, m, t, tm, seen, false, 0);
-    if r.number != refusal::DONE {
-        return r;
-    }
-    store::say(log, r.count, Event::end(geometry_type::TIN, false, idx))
 }

@@ -1,10 +1,11 @@
 // Property bytes read into a log.
-use props::PropertiesRead;
-use replay::Tally;
+use property_reader::PropertiesRead;
 use replay::bytes_from;
+use replay::difference;
 use replay::first;
 use replay::number;
 use replay::past;
+use replay::unless;
 
 // Where the parts of a case stand.
 const NUMBER: usize = 1;
@@ -25,22 +26,22 @@ const BYTE_COUNT: usize = 8;
 
 const COLUMNS: usize = 9;
 
-pub fn read(case: &[u8], memory: &mut [u8], tally: Tally) -> Tally {
+pub fn read(case: &[u8], memory: &mut [u8]) -> u8 {
     let length = number(case, LOG_LENGTH);
     if length > memory.len() {
-        return tally.expect(false, b"log length");
+        return difference::CASE;
     }
-    read_to(&mut memory[0..length], case, tally)
+    read_to(&mut memory[0..length], case)
 }
 
-fn read_to(log: &mut [u8], case: &[u8], tally: Tally) -> Tally {
-    let answer = read_among_canaries(log, case);
-    expect_read(answer, log, case, tally)
+fn read_to(log: &mut [u8], case: &[u8]) -> u8 {
+    replay::clear(log);
+    let answer = read_properties(log, case);
+    differences(answer, log, case)
 }
 
-fn read_among_canaries(log: &mut [u8], case: &[u8]) -> PropertiesRead {
-    replay::lay(log, 0, b"");
-    props::read_properties(
+fn read_properties(log: &mut [u8], case: &[u8]) -> PropertiesRead {
+    property_reader::read_properties(
         first(past_columns(case), number(case, BYTE_COUNT)),
         number(case, HAS_COLUMNS) == 1,
         first(bytes_from(case, COLUMNS), number(case, COLUMN_COUNT)),
@@ -53,11 +54,14 @@ fn past_columns(case: &[u8]) -> &[u8] {
     past(bytes_from(case, COLUMNS), number(case, COLUMN_COUNT))
 }
 
-fn expect_read(answer: PropertiesRead, log: &[u8], case: &[u8], tally: Tally) -> Tally {
+fn differences(answer: PropertiesRead, log: &[u8], case: &[u8]) -> u8 {
     let records = past(past_columns(case), number(case, BYTE_COUNT));
-    tally
-        .expect(answer.number as usize == number(case, NUMBER), b"number")
-        .expect(answer.count == number(case, COUNT), b"count")
-        .expect(answer.stopped == (number(case, STOPPED) == 1), b"stopped")
-        .expect(replay::holds(log, 0, records), b"log")
+    let stopped = number(case, STOPPED) == 1;
+    unless(
+        answer.number as usize == number(case, NUMBER),
+        difference::NUMBER,
+    )
+        | unless(answer.count == number(case, COUNT), difference::COUNT)
+        | unless(answer.stopped == stopped, difference::ANSWER)
+        | unless(replay::holds(log, 0, records), difference::MEMORY)
 }

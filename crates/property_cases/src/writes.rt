@@ -1,11 +1,12 @@
 // A property written to a buffer.
-use props::PropertyPut;
-use replay::Tally;
+use property_writer::PropertyPut;
 use replay::byte;
 use replay::bytes_from;
+use replay::difference;
 use replay::first;
 use replay::number;
 use replay::past;
+use replay::unless;
 use replay::word;
 
 // Where the parts of a case stand.
@@ -29,22 +30,22 @@ const TEXT_LENGTH: usize = 10;
 
 const TEXT: usize = 11;
 
-pub fn written(case: &[u8], memory: &mut [u8], tally: Tally) -> Tally {
+pub fn written(case: &[u8], memory: &mut [u8]) -> u8 {
     let length = number(case, BUFFER_LENGTH);
     if length > memory.len() {
-        return tally.expect(false, b"buffer length");
+        return difference::CASE;
     }
-    written_to(&mut memory[0..length], case, tally)
+    written_to(&mut memory[0..length], case)
 }
 
-fn written_to(buffer: &mut [u8], case: &[u8], tally: Tally) -> Tally {
-    let answer = put_among_canaries(buffer, case);
-    expect_put(answer, buffer, case, tally)
+fn written_to(buffer: &mut [u8], case: &[u8]) -> u8 {
+    replay::clear(buffer);
+    let answer = put_property(buffer, case);
+    differences(answer, buffer, case)
 }
 
-fn put_among_canaries(buffer: &mut [u8], case: &[u8]) -> PropertyPut {
-    replay::lay(buffer, 0, b"");
-    props::put_property(
+fn put_property(buffer: &mut [u8], case: &[u8]) -> PropertyPut {
+    property_writer::put_property(
         number(case, WAITING) == 1,
         number(case, USED) as u32,
         number(case, COLUMN) as u32,
@@ -55,10 +56,18 @@ fn put_among_canaries(buffer: &mut [u8], case: &[u8]) -> PropertyPut {
     )
 }
 
-fn expect_put(answer: PropertyPut, buffer: &[u8], case: &[u8], tally: Tally) -> Tally {
+fn differences(answer: PropertyPut, buffer: &[u8], case: &[u8]) -> u8 {
     let laid = past(bytes_from(case, TEXT), number(case, TEXT_LENGTH));
-    tally
-        .expect(answer.number as usize == number(case, NUMBER), b"number")
-        .expect(answer.used as usize == number(case, USED_AFTER), b"used")
-        .expect(replay::holds(buffer, number(case, USED), laid), b"buffer")
+    unless(
+        answer.number as usize == number(case, NUMBER),
+        difference::NUMBER,
+    )
+        | unless(
+            answer.used as usize == number(case, USED_AFTER),
+            difference::COUNT,
+        )
+        | unless(
+            replay::holds(buffer, number(case, USED), laid),
+            difference::MEMORY,
+        )
 }

@@ -10,7 +10,7 @@ use Rattle.kinds.specs.declared.event.Event.{Event}
 use Rattle.kinds.specs.Event.{beginE, endE, xyE}
 use Rattle.kinds.specs.declared.flags.Flags.{Flags}
 use Rattle.store.specs.Lists.{Rec}
-use Rattle.lines.specs.Coords.{pairS, coordsS, betweenS}
+use Rattle.coords.specs.Coords.{pairS, coordsS, betweenS}
 use Rattle.lines.specs.Lines.{stretchS, linesS, ringsS, stretchesS, multiLineS, pointS}
 use Rattle.reader.specs.Reading.{spanS, partsS, kindS, geometryS, rootS, readS}
 

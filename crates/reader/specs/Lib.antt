@@ -1,5 +1,5 @@
 pub mod Reading
-pub mod Walks
-pub mod WalkLaws
+pub mod Roles
+pub mod RoleLaws
 pub mod Lone
 pub mod Examples

@@ -1,4 +1,4 @@
--- geometry_reader.rs: what reading a tree says. The walks over a record's own lists are in the crate below.
+-- geometry_reader.rs: what reading a tree says. The walks over a record's own lists are those of `lines`.
 use mathlib.Core.Bool.{true, false, cond, not, _&&_, _||_}
 use mathlib.Core.Option.{Option, none, some}
 use Prim.Native.Nat.{ℕ, zero, suc, _+_}
@@ -9,7 +9,7 @@ use Rattle.kinds.specs.Event.{beginE, endE}
 use Rattle.kinds.specs.declared.event.Event.{Event}
 use Rattle.kinds.specs.declared.flags.Flags.{Flags}
 use Rattle.store.specs.Lists.{Rec}
-use Rattle.lines.specs.Coords.{coordsOf}
+use Rattle.coords.specs.Coords.{coordsOf}
 use Rattle.lines.specs.Lines.{orNone, flatS, polygonS, multiLineS, triangleS, tinS, pointS}
 
 -- ---- parts: `part n i` is what the record of number n says as part i

@@ -1,10 +1,4 @@
 // The geometry reader: a tree of records, as events in a log.
-mod walk;
-
-use crate::walk::Role;
-use crate::walk::Walk;
-use crate::walk::walk_in;
-use crate::walk::walk_of;
 use kinds::answer::Answer;
 use kinds::event::Event;
 use kinds::flags::Flags;
@@ -16,48 +10,23 @@ use kinds::geometry::Span;
 use kinds::geometry_type;
 use kinds::refusal;
 use kinds::usable;
+use walks::Role;
+use walks::Walk;
+use walks::lone_part;
+use walks::walk_in;
+use walks::walk_of;
 ghost use mathlib.Core.Path.{_≡_};
 ghost use mathlib.Core.Bool.{cond};
 ghost use Prim.Native.Nat.{_<_};
 ghost use lib.Dec.{eqb};
 ghost use Rattle.laws.specs.Script.{out, run};
 ghost use Rattle.laws.specs.Cut.{Said};
-ghost use Rattle.store.specs.Lists.{poolsOf, lentOf, partsOf, listsOf, recordWith};
+ghost use Rattle.store.specs.Lists.{poolsOf, partsOf, listsOf, recordWith};
 ghost use Rattle.store.specs.Log.{events};
-ghost use Rattle.lines.specs.Own.{InPools};
-ghost use Rattle.reader.specs.Lone.{LonePart};
+ghost use Rattle.own_lists.specs.Own.{InPools};
 ghost use Rattle.reader.specs.Reading.{spanS, readS};
-ghost use Rattle.reader.specs.Walks.{Typed, partS, walkS};
-
-fn lent_of(xy: &[u64], ends: &[u32], z: &[u64], m: &[u64], t: &[u64], tm: &[u64]) -> Lent
-    ensures { λ r. ⌜ r ≡ lentOf (poolsOf (now (xy .entry)) (now (ends .entry)) (now (z .entry)) (now (m .entry)) (now (t .entry)) (now (tm .entry))) ⌝ }
-{
-    Lent {
-        xy: xy.len(),
-        ends: ends.len(),
-        z: z.len(),
-        m: m.len(),
-        t: t.len(),
-        tm: tm.len(),
-    }
-}
-
-// The list of part n, where it is read as a polygon of pairs with nothing beside them and its record has no other list.
-fn lone_part(table: &[u8], lent: usize, flags: Flags, role: Role, n: usize) -> Lone
-    ensures { λ r. ⌜ LonePart flags role (now (table .entry)) lent n r ⌝ }
-{
-    match role {
-        Role::Polygon => {
-            if flags.multi() {
-                Lone::Other
-            } else {
-                store::lone_list_at(table, lent, n)
-            }
-        }
-        Role::Geometry => Lone::Other,
-        Role::Curve { above: _ } => Lone::Other,
-    }
-}
+ghost use Rattle.walks.specs.Walks.{Typed};
+ghost use Rattle.reader.specs.Roles.{partS, walkS};
 
 // read_geometry_n: a record by its walk, as number idx, with so many levels left below it.
 fn read_geometry_n(
@@ -77,10 +46,14 @@ fn read_geometry_n(
     levels: u8,
 ) -> Answer
     requires { ⌜ InPools (poolsOf (now xy) (now ends) (now z) (now m) (now t) (now tm)) g × Typed walk ⌝ }
-    ensures { λ r. ⌜ run events (let P = poolsOf (now (xy .entry)) (now (ends .entry)) (now (z .entry)) (now (m .entry)) (now (t .entry)) (now (tm .entry)) in walkS flags levels (recordWith (now (table .entry)) P) (listsOf P g) walk idx) (now (log .entry)) count ≡ out (r .number) (r .count) (now (log .exit)) ⌝ }
+    ensures { λ r. let P = poolsOf (now (xy .entry)) (now (ends .entry)) (now (z .entry)) (now (m .entry)) (now (t .entry)) (now (tm .entry)) in
+        ⌜ run events (walkS flags levels (recordWith (now (table .entry)) P) (listsOf P g) walk idx)
+        (now (log .entry)) count ≡ out (r .number) (r .count) (now (log .exit)) ⌝ }
 {
     match walk {
-        Walk::Own(own) => { lines::read_own(log, count, xy, ends, z, m, t, tm, flags, g, own, idx) }
+        Walk::Own(own) => {
+            own_lists::read_own(log, count, xy, ends, z, m, t, tm, flags, g, own, idx)
+        }
         Walk::Parts { kind, role } => {
             let parts = g.parts;
             read_geometrycollection(
@@ -124,7 +97,9 @@ fn read_geometrycollection(
     levels: u8,
 ) -> Answer
     requires { ⌜ kind < 32 ⌝ }
-    ensures { λ r. ⌜ run events (spanS (partS flags role levels (recordWith (now (table .entry)) (poolsOf (now (xy .entry)) (now (ends .entry)) (now (z .entry)) (now (m .entry)) (now (t .entry)) (now (tm .entry))))) (partsOf parts) kind idx) (now (log .entry)) count ≡ out (r .number) (r .count) (now (log .exit)) ⌝ }
+    ensures { λ r. let P = poolsOf (now (xy .entry)) (now (ends .entry)) (now (z .entry)) (now (m .entry)) (now (t .entry)) (now (tm .entry)) in
+        ⌜ run events (spanS (partS flags role levels (recordWith (now (table .entry)) P)) (partsOf parts) kind idx)
+        (now (log .entry)) count ≡ out (r .number) (r .count) (now (log .exit)) ⌝ }
 {
     let Span::Stretch { start, count: size } = parts else {
         return Answer {
@@ -182,7 +157,9 @@ fn read_part(
     idx: u32,
     levels: u8,
 ) -> Answer
-    ensures { λ r. ⌜ run events (partS flags role levels (recordWith (now (table .entry)) (poolsOf (now (xy .entry)) (now (ends .entry)) (now (z .entry)) (now (m .entry)) (now (t .entry)) (now (tm .entry)))) n idx) (now (log .entry)) count ≡ out (r .number) (r .count) (now (log .exit)) ⌝ }
+    ensures { λ r. let P = poolsOf (now (xy .entry)) (now (ends .entry)) (now (z .entry)) (now (m .entry)) (now (t .entry)) (now (tm .entry)) in
+        ⌜ run events (partS flags role levels (recordWith (now (table .entry)) P) n idx)
+        (now (log .entry)) count ≡ out (r .number) (r .count) (now (log .exit)) ⌝ }
 {
     if levels == 0 {
         return Answer {
@@ -196,9 +173,9 @@ fn read_part(
     } = lone_part(table, xy.len(), flags, role, n) {
         let from = start as usize;
         let end = from + words as usize;
-        return lines::read_lone_ring(log, count, &xy[from..end], idx);
+        return lone_ring::read_lone_ring(log, count, &xy[from..end], idx);
     }
-    let lent = lent_of(xy, ends, z, m, t, tm);
+    let lent = Lent::new(xy.len(), ends.len(), z.len(), m.len(), t.len(), tm.len());
     match store::record_at(table, lent, n) {
         Judged::Good(g) => {
             let walk = walk_in(role, g.kind);
@@ -250,9 +227,11 @@ pub fn read(
     flags: Flags,
     log: &mut [u8],
 ) -> Answer
-    ensures { λ r. ⌜ Said events (readS flags (recordWith (now (table .entry)) (poolsOf (now (xy .entry)) (now (ends .entry)) (now (z .entry)) (now (m .entry)) (now (t .entry)) (now (tm .entry)))) declared) (now (log .entry)) (r .number) (r .count) (now (log .exit)) ⌝ }
+    ensures { λ r. ⌜ Said events (readS flags (recordWith (now (table .entry))
+        (poolsOf (now (xy .entry)) (now (ends .entry)) (now (z .entry)) (now (m .entry)) (now (t .entry)) (now (tm .entry)))) declared)
+        (now (log .entry)) (r .number) (r .count) (now (log .exit)) ⌝ }
 {
-    let lent = lent_of(xy, ends, z, m, t, tm);
+    let lent = Lent::new(xy.len(), ends.len(), z.len(), m.len(), t.len(), tm.len());
     match store::record_at(table, lent, 0) {
         Judged::Good(g) => {
             let walk = walk_of(type_of(declared, g.kind), g.kind);

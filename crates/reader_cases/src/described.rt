@@ -17,14 +17,6 @@ const TAIL: usize = 3;
 
 const NUMBERS: usize = 4;
 
-// What follows a description.
-pub fn next(descriptions: &[u8]) -> &[u8] {
-    let numbers = number(descriptions, HEAD)
-        + 2 * number(descriptions, GROUP)
-        + number(descriptions, TAIL);
-    bytes_from(descriptions, NUMBERS + numbers)
-}
-
 // A step is 0, 1, 2 or 4.
 fn in_turn(numbers: &[u8], group: usize, at: usize) -> usize
     ensures { λ r. ⌜ r < 4294967296 ⌝ }
@@ -90,46 +82,67 @@ fn byte_at(description: &[u8], at: usize) -> u8 {
     (byte % 256) as u8
 }
 
-pub fn lay_bytes(bytes: &mut [u8], count: usize, description: &[u8]) {
+// The description of a list whose numbers stand at k in a case: how many it has, and then where it is described.
+fn description(case: &[u8], k: usize) -> &[u8] {
+    bytes_from(case, number(case, k))
+}
+
+// Each of these lays a list down where it fits, and says whether it does.
+pub fn lay_bytes(bytes: &mut [u8], case: &[u8], k: usize) -> bool
+    requires { ⌜ k < 4294967296 ⌝ }
+{
+    let count = number(case, k);
     if count > bytes.len() {
-        return;
+        return false;
     }
+    let described = description(case, k + 1);
     let mut i = 0;
     while i < count {
-        bytes[i] = byte_at(description, i);
+        bytes[i] = byte_at(described, i);
         i += 1;
     }
+    true
 }
 
-pub fn lay_ends(ends: &mut [u32], count: usize, description: &[u8]) {
+pub fn lay_ends(ends: &mut [u32], case: &[u8], k: usize) -> bool
+    requires { ⌜ k < 4294967296 ⌝ }
+{
+    let count = number(case, k);
     if count > ends.len() {
-        return;
+        return false;
     }
+    let described = description(case, k + 1);
     let mut i = 0;
     while i < count {
-        ends[i] = number_at(description, i) as u32;
+        ends[i] = number_at(described, i) as u32;
         i += 1;
     }
+    true
 }
 
-// A pool at its place among all words.
-pub fn lay_pool(words: &mut [u64], pool: &[u8], description: &[u8]) {
-    let place = number(pool, 0);
-    let count = number(pool, 1);
+// A pool at its place among all words, which stands before its count.
+pub fn lay_pool(words: &mut [u64], case: &[u8], k: usize) -> bool
+    requires { ⌜ k < 4294967296 ⌝ }
+{
+    let place = number(case, k);
+    let count = number(case, k + 1);
     if place + count > words.len() {
-        return;
+        return false;
     }
+    let described = description(case, k + 2);
     let mut i = 0;
     while i < count {
-        words[place + i] = word_at(description, i);
+        words[place + i] = word_at(described, i);
         i += 1;
     }
+    true
 }
 
-pub fn same_bytes(bytes: &[u8], description: &[u8]) -> bool {
+pub fn same_bytes(bytes: &[u8], case: &[u8], k: usize) -> bool {
+    let described = description(case, k);
     let mut i = 0;
     while i < bytes.len() {
-        if bytes[i] != byte_at(description, i) {
+        if bytes[i] != byte_at(described, i) {
             return false;
         }
         i += 1;

@@ -2,86 +2,51 @@
 use crate::described::lay_bytes;
 use crate::described::lay_ends;
 use crate::described::lay_pool;
-use crate::described::next;
 use kinds::answer::Answer;
 use kinds::flags::Flags;
 use replay::byte;
-use replay::bytes_from;
 use replay::first;
 use replay::number;
+ghost use Prim.Native.Nat.{_<_};
 
-// Where the numbers of a case stand. A pool of words has its place among all words, and how many it has.
-const DECLARED: usize = 0;
+// Where the numbers of a case stand. A pool of words has its place among all words; then, as the table and the ends, how many it has,
+// and where in the case it is described.
+const DECLARED: usize = 1;
 
-const FLAGS: usize = 1;
+const FLAGS: usize = 2;
 
-const TABLE: usize = 2;
+const TABLE: usize = 3;
 
-const ENDS: usize = 3;
+const ENDS: usize = 5;
 
-const XY: usize = 4;
+const XY: usize = 7;
 
-const Z: usize = 6;
+const Z: usize = 10;
 
-const M: usize = 8;
+const M: usize = 13;
 
-const T: usize = 10;
+const T: usize = 16;
 
-const TM: usize = 12;
+const TM: usize = 19;
 
-// Lays down the table and the pools, in the order of their descriptions: the table, the ends, xy, z, m, t, tm.
-pub fn lay_tree(
-    case: &[u8],
-    descriptions: &[u8],
-    table: &mut [u8],
-    words: &mut [u64],
-    ends: &mut [u32],
-) {
-    lay_bytes(table, number(case, TABLE), descriptions);
-    let of_ends = next(descriptions);
-    lay_ends(ends, number(case, ENDS), of_ends);
-    lay_pools(case, next(of_ends), words);
+// Lays down the table and the pools, and says whether all have their memory.
+pub fn lay_tree(case: &[u8], table: &mut [u8], words: &mut [u64], ends: &mut [u32]) -> bool {
+    lay_bytes(table, case, TABLE) & lay_ends(ends, case, ENDS) & lay_pools(case, words)
 }
 
-fn lay_pools(case: &[u8], descriptions: &[u8], words: &mut [u64]) {
-    lay_pool(words, bytes_from(case, XY), descriptions);
-    let of_z = next(descriptions);
-    lay_pool(words, bytes_from(case, Z), of_z);
-    lay_m_t_tm(case, next(of_z), words);
+fn lay_pools(case: &[u8], words: &mut [u64]) -> bool {
+    lay_pool(words, case, XY)
+        & lay_pool(words, case, Z)
+        & lay_pool(words, case, M)
+        & lay_pool(words, case, T)
+        & lay_pool(words, case, TM)
 }
 
-fn lay_m_t_tm(case: &[u8], descriptions: &[u8], words: &mut [u64]) {
-    lay_pool(words, bytes_from(case, M), descriptions);
-    let of_t = next(descriptions);
-    lay_pool(words, bytes_from(case, T), of_t);
-    lay_pool(words, bytes_from(case, TM), next(of_t));
-}
-
-// The description of the events, behind those of the table and the six pools.
-pub fn events(descriptions: &[u8]) -> &[u8] {
-    let of_xy = next(next(descriptions));
-    let of_t = next(next(next(of_xy)));
-    next(next(of_t))
-}
-
-// Whether the tree has its memory.
-pub fn fits(case: &[u8], table: &[u8], words: &[u64], ends: &[u32]) -> bool {
-    (number(case, TABLE) <= table.len())
-        & (number(case, ENDS) <= ends.len())
-        & pool_fits(words, bytes_from(case, XY))
-        & pool_fits(words, bytes_from(case, Z))
-        & pool_fits(words, bytes_from(case, M))
-        & pool_fits(words, bytes_from(case, T))
-        & pool_fits(words, bytes_from(case, TM))
-}
-
-fn pool_fits(words: &[u64], pool: &[u8]) -> bool {
-    number(pool, 0) + number(pool, 1) <= words.len()
-}
-
-fn pool_of<'a>(words: &'a [u64], pool: &[u8]) -> &'a [u64] {
-    let start = number(pool, 0);
-    let end = start + number(pool, 1);
+fn pool<'a>(words: &'a [u64], case: &[u8], k: usize) -> &'a [u64]
+    requires { ⌜ k < 4294967296 ⌝ }
+{
+    let start = number(case, k);
+    let end = start + number(case, k + 1);
     if end > words.len() {
         return &words[..0];
     }
@@ -95,26 +60,17 @@ fn so_many(ends: &[u32], n: usize) -> &[u32] {
     &ends[0..n]
 }
 
-fn flags_of(bits: u8) -> Flags {
-    Flags {
-        z: bits % 2 == 1,
-        m: bits / 2 % 2 == 1,
-        t: bits / 4 % 2 == 1,
-        tm: bits / 8 % 2 == 1,
-    }
-}
-
 pub fn read(case: &[u8], table: &[u8], words: &[u64], ends: &[u32], log: &mut [u8]) -> Answer {
     reader::read(
         first(table, number(case, TABLE)),
-        pool_of(words, bytes_from(case, XY)),
+        pool(words, case, XY),
         so_many(ends, number(case, ENDS)),
-        pool_of(words, bytes_from(case, Z)),
-        pool_of(words, bytes_from(case, M)),
-        pool_of(words, bytes_from(case, T)),
-        pool_of(words, bytes_from(case, TM)),
+        pool(words, case, Z),
+        pool(words, case, M),
+        pool(words, case, T),
+        pool(words, case, TM),
         byte(case, DECLARED),
-        flags_of(byte(case, FLAGS)),
+        Flags::of(byte(case, FLAGS)),
         log,
     )
 }

@@ -1,7 +1,7 @@
 // A case: its numbers, four bytes each, then its bytes. What a case does not have is zero, or empty.
-use layout::u32_at;
-use layout::u64_at;
-ghost use Prim.Native.Nat.{_<_};
+use numbers::u32_at;
+use numbers::u64_at;
+ghost use Prim.Native.Nat.{_<_, _≤_};
 
 pub fn number(case: &[u8], k: usize) -> usize
     ensures { λ r. ⌜ r < 4294967296 ⌝ }
@@ -53,4 +53,11 @@ pub fn past(bytes: &[u8], n: usize) -> &[u8] {
         return &bytes[..0];
     }
     &bytes[n..]
+}
+
+// A number, or the room where the number is greater.
+pub fn lesser(n: usize, room: usize) -> usize
+    ensures { λ r. ⌜ r ≤ room ⌝ }
+{
+    if n > room { room } else { n }
 }

@@ -1,18 +1,23 @@
-// How many cases ran, of which sort, and how many differed.
+// How many cases ran, of which sort, and how many differed. A sort's count stands at its own number.
+use crate::difference;
 use libc::STDOUT_FILENO;
+ghost use Prim.Native.Nat.{_<_};
 
-const SORTS: usize = 4;
+pub const SORTS: usize = 10;
+
+// A sort that no program knows is counted here.
+const STRAY: usize = 10;
+
+const CASES: usize = 11;
+
+const DIFFER: usize = 12;
+
+pub type Tally = [u64; 13];
+
+pub const NONE: Tally = [0; 13];
 
 // So many cases are named; the others are only counted.
 const NAMED: u64 = 10;
-
-pub struct Tally {
-    pub sorts: [u64; SORTS],
-    pub cases: u64,
-    pub differ: u64,
-    // Whether nothing differed in the last case so far.
-    pub clean: bool,
-}
 
 // No list is so long that the count stands still.
 fn more(n: u64) -> u64 {
@@ -22,77 +27,50 @@ fn more(n: u64) -> u64 {
     n + 1
 }
 
-fn count_sort(sorts: [u64; SORTS], sort: usize) -> [u64; SORTS] {
-    let mut counted = sorts;
-    if sort < SORTS {
-        counted[sort] = more(sorts[sort]);
-    }
-    counted
+fn place(sort: usize) -> usize
+    ensures { λ r. ⌜ r < 13 ⌝ }
+{
+    if sort < SORTS { sort } else { STRAY }
 }
 
-fn print_difference(case: u64, what: &[u8]) {
+fn print_case(case: u64, differs: u8) {
     io::write_all(STDOUT_FILENO, b"case ");
     io::print_decimal(STDOUT_FILENO, case);
-    io::write_all(STDOUT_FILENO, b" differs: ");
-    io::write_all(STDOUT_FILENO, what);
+    io::write_all(STDOUT_FILENO, b" differs:");
+    difference::print(differs);
     io::write_all(STDOUT_FILENO, b"\n");
 }
 
-impl Tally {
-    pub fn new() -> Tally {
-        Tally {
-            sorts: [0; SORTS],
-            cases: 0,
-            differ: 0,
-            clean: true,
-        }
+// How many differ, with one that has these differences.
+fn with_one(differ: u64, case: u64, differs: u8) -> u64 {
+    if differs == difference::NONE {
+        return differ;
     }
+    if differ < NAMED {
+        print_case(case, differs);
+    }
+    more(differ)
+}
 
-    pub fn begin(self, sort: usize) -> Tally {
-        let sorts = self.sorts;
-        Tally {
-            sorts: count_sort(sorts, sort),
-            cases: more(self.cases),
-            differ: self.differ,
-            clean: true,
-        }
-    }
+// Counts a case, and names what differs in it.
+pub fn count(tally: &mut Tally, sort: usize, differs: u8) {
+    let at = place(sort);
+    tally[at] = more(tally[at]);
+    let cases = more(tally[CASES]);
+    tally[CASES] = cases;
+    tally[DIFFER] = with_one(tally[DIFFER], cases, differs);
+}
 
-    // What a case expects: `what` names it where it does not hold.
-    pub fn expect(self, holds: bool, what: &[u8]) -> Tally {
-        if holds {
-            return self;
-        }
-        if self.differ < NAMED {
-            print_difference(self.cases, what);
-        }
-        let sorts = self.sorts;
-        Tally {
-            sorts,
-            cases: self.cases,
-            differ: if self.clean {
-                more(self.differ)
-            } else {
-                self.differ
-            },
-            clean: false,
-        }
-    }
+pub fn print_sort(tally: &Tally, sort: usize, name: &[u8]) {
+    io::write_all(STDOUT_FILENO, name);
+    io::write_all(STDOUT_FILENO, b" ");
+    io::print_decimal(STDOUT_FILENO, tally[place(sort)]);
+    io::write_all(STDOUT_FILENO, b"\n");
+}
 
-    pub fn print_sort(self, sort: usize, name: &[u8]) {
-        let sorts = self.sorts;
-        if sort < SORTS {
-            io::write_all(STDOUT_FILENO, name);
-            io::write_all(STDOUT_FILENO, b" ");
-            io::print_decimal(STDOUT_FILENO, sorts[sort]);
-            io::write_all(STDOUT_FILENO, b"\n");
-        }
-    }
-
-    pub fn print(self) {
-        io::print_decimal(STDOUT_FILENO, self.cases);
-        io::write_all(STDOUT_FILENO, b" cases, ");
-        io::print_decimal(STDOUT_FILENO, self.differ);
-        io::write_all(STDOUT_FILENO, b" differ\n");
-    }
+pub fn print_total(tally: &Tally) {
+    io::print_decimal(STDOUT_FILENO, tally[CASES]);
+    io::write_all(STDOUT_FILENO, b" cases, ");
+    io::print_decimal(STDOUT_FILENO, tally[DIFFER]);
+    io::write_all(STDOUT_FILENO, b" differ\n");
 }

@@ -67,15 +67,15 @@ seen P (Good g) = some (listsOf P g)
 
 -- the record with a number, none where it is bad
 unfoldable pub recordWith : List ℕ → Pools → ℕ → Option Rec
-recordWith T P n = seen P (recordAt T (lentOf P) n)
+recordWith table P n = seen P (recordAt table (lentOf P) n)
 
-pub with-good : (T : List ℕ) (P : Pools) (n : ℕ) (g : Geometry) → recordAt T (lentOf P) n ≡ Good g → recordWith T P n ≡ some (listsOf P g)
+pub with-good : (table : List ℕ) (P : Pools) (n : ℕ) (g : Geometry) → recordAt table (lentOf P) n ≡ Good g → recordWith table P n ≡ some (listsOf P g)
 unfolding recordWith
-with-good T P n g h = rw h
+with-good table P n g h = rw h
 
-pub with-bad : (T : List ℕ) (P : Pools) (n : ℕ) → recordAt T (lentOf P) n ≡ Bad → recordWith T P n ≡ none
+pub with-bad : (table : List ℕ) (P : Pools) (n : ℕ) → recordAt table (lentOf P) n ≡ Bad → recordWith table P n ≡ none
 unfolding recordWith
-with-bad T P n h = rw h
+with-bad table P n h = rw h
 
 -- a stretch within its pool has as many words as it says
 pub stretch-length : (pool : List ℕ) (start count : ℕ) → start + count ≤ length pool → length (take count (drop start pool)) ≡ count

@@ -5,13 +5,11 @@ use mathlib.Core.List.{List}
 use Prim.Native.Nat.{ℕ}
 use lib.Dec.{lit<}
 use Rattle.laws.specs.Script.{Format}
-use Rattle.layout.specs.Event.{eventBytes, readEvent}
-use Rattle.layout.specs.EventLaws.{event-length, event-back, event-forth}
+use Rattle.event_layout.specs.Event.{eventBytes, readEvent}
+use Rattle.event_layout.specs.EventLaws.{event-length, event-back, event-forth}
 use Rattle.laws.specs.Bytes.{Bytes}
-use Rattle.kinds.specs.Event.{wellFormed, EventSized}
+use Rattle.kinds.specs.Event.{Parsed, WellFormed, wellFormed, EventSized}
 use Rattle.kinds.specs.declared.event.Event.{Event}
-use Rattle.kinds.specs.declared.event.Parsed.{Parsed}
-use Rattle.kinds.specs.declared.event.Parsed.the-variants.{WellFormed}
 
 -- an event's record in a log
 unfoldable pub events : Format Event
@@ -26,10 +24,10 @@ pub hear-said : (e : Event) → EventSized e → wellFormed e ≡ true → heard
 unfolding heard events
 hear-said e sized formed = event-back e sized formed
 
-pub record Heard (bytes : List ℕ) (e : Event) : Type 0 where
+pub record SaidAs (bytes : List ℕ) (e : Event) : Type 0 where
   pub laid : events .bytes e ≡ bytes
   pub formed : wellFormed e ≡ true
 
-pub said-heard : (bytes : List ℕ) (e : Event) → Bytes bytes → heard bytes ≡ WellFormed e → Heard bytes e
+pub said-heard : (bytes : List ℕ) (e : Event) → Bytes bytes → heard bytes ≡ WellFormed e → SaidAs bytes e
 unfolding heard events
 said-heard bytes e b h = let r = event-forth bytes e b h in record { laid = r .bytes; formed = r .formed }

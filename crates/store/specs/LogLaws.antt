@@ -1,37 +1,40 @@
 -- What bytes that are heard are, and what they are not.
-use mathlib.Core.Path.{_≡_, refl, _∙_}
-use mathlib.Core.Bool.{Bool, true, false, cond, not, _&&_}
+use mathlib.Core.Path.{_≡_, refl}
+use mathlib.Core.Bool.{Bool, true, false, cond, _&&_}
 use mathlib.Core.List.{List}
 use Prim.Native.Nat.{ℕ}
 use native.Mathlib.Omega.{arith}
 use lib.ListN.{length}
 use lib.Dec.{eqb}
-use borrow.Author.Tests.{eqb-true, ne-eqb}
-use Rattle.laws.specs.Every.{both}
-use Rattle.kinds.specs.Event.{isBare, wellFormed, bareOf}
-use Rattle.kinds.specs.EventLaws.{bare-formed}
-use Rattle.kinds.specs.declared.event.Bare.the-variants.{Pair, Other}
+use borrow.Author.Tests.{eqb-true, eqb-false, ne-eqb}
+use Rattle.kinds.specs.Event.{Parsed, WellFormed, Malformed, wellFormed, isQuiet, toldApart}
+use Rattle.kinds.specs.EventLaws.{xy-alone}
 use Rattle.kinds.specs.declared.event.Event.{Event}
-use Rattle.kinds.specs.declared.event.Parsed.{Parsed}
-use Rattle.kinds.specs.declared.event.Parsed.the-variants.{WellFormed, Malformed}
-use Rattle.layout.specs.Event.{eventOf, spareZero, readEvent}
+use Rattle.kinds.specs.declared.event.Heard.{Heard}
+use Rattle.kinds.specs.declared.event.Heard.the-variants.{Pair, Coordinate, Quiet, Other, Malformed as Unheard}
+use Rattle.event_layout.specs.Event.{eventOf, spareZero, readEvent}
 use Rattle.store.specs.Log.{heard}
 
 pub not-whole : (bytes : List ℕ) → (length bytes ≡ 64 → ⊥) → heard bytes ≡ Malformed
 unfolding heard readEvent
 not-whole bytes h = rw (ne-eqb (length bytes) 64 h)
 
-heard-formed : (bytes : List ℕ) (e : Event) → heard bytes ≡ WellFormed e → wellFormed e ≡ true
+-- ---- bytes that are heard as an event have its fields, and it is well-formed
+pub record HeardEvent (bytes : List ℕ) (e : Event) : Type 0 where
+  pub fields : eventOf bytes ≡ e
+  pub formed : wellFormed e ≡ true
+
+pub heard-event : (bytes : List ℕ) (e : Event) → heard bytes ≡ WellFormed e → HeardEvent bytes e
 unfolding heard readEvent
-heard-formed bytes e h = by-tests (eqb (length bytes) 64) (spareZero bytes) (wellFormed (eventOf bytes)) refl h
+heard-event bytes e h = by-tests (eqb (length bytes) 64) (spareZero bytes) (wellFormed (eventOf bytes)) refl h
   where
-    by-tests : (long spare formed : Bool) → wellFormed (eventOf bytes) ≡ formed → cond (long && (spare && formed)) (WellFormed (eventOf bytes)) Malformed ≡ WellFormed e → wellFormed e ≡ true
-    by-tests true true true f h = let same : eventOf bytes ≡ e = cc in rw same at f
+    by-tests : (long spare formed : Bool) → wellFormed (eventOf bytes) ≡ formed → cond (long && (spare && formed)) (WellFormed (eventOf bytes)) Malformed ≡ WellFormed e → HeardEvent bytes e
+    by-tests true true true f h = let same : eventOf bytes ≡ e = cc in record { fields = same; formed = rw same at f }
     by-tests true true false f h = let z : _≡_ {A = ℕ} 0 1 = cc in absurd (omega arith)
     by-tests true false formed f h = let z : _≡_ {A = ℕ} 0 1 = cc in absurd (omega arith)
     by-tests false spare formed f h = let z : _≡_ {A = ℕ} 0 1 = cc in absurd (omega arith)
 
--- ---- bytes that are heard as a pair are an event with nothing beside it
+-- ---- what stands behind each thing that bytes are heard as
 pub record HeardPair (bytes : List ℕ) (x y : ℕ) : Type 0 where
   pub event : Event
   pub is : heard bytes ≡ WellFormed event
@@ -40,25 +43,41 @@ pub record HeardPair (bytes : List ℕ) (x y : ℕ) : Type 0 where
   pub x-is : event .x ≡ x
   pub y-is : event .y ≡ y
 
-xy-alone : (e : Event) → e .kind ≡ 64 → wellFormed e ≡ true → e .present ≡ 0
-unfolding isBare
-xy-alone e kind formed =
-    let no-tm = both _ (eqb (e .tm) 0) (bare-formed e kind ∙ formed) in
-    let no-t = both _ (eqb (e .t) 0) (no-tm .0) in
-    let no-m = both _ (eqb (e .m) 0) (no-t .0) in
-    let no-z = both _ (eqb (e .z) 0) (no-m .0) in
-    let no-size = both (not (e .tagged) && eqb (e .present) 0) (eqb (e .size) 0) (no-z .0) in
-    eqb-true (e .present) 0 (both (not (e .tagged)) (eqb (e .present) 0) (no-size .0) .1)
+pub record HeardCoordinate (bytes : List ℕ) (e : Event) : Type 0 where
+  pub is : heard bytes ≡ WellFormed e
+  pub kind : e .kind ≡ 65
 
-pub heard-pair : (bytes : List ℕ) (x y : ℕ) → bareOf (heard bytes) ≡ Pair x y → HeardPair bytes x y
-heard-pair bytes x y h = by-record (heard bytes) refl h
-  where
-    by-kind : (e : Event) (xy : Bool) → eqb (e .kind) 64 ≡ xy → heard bytes ≡ WellFormed e → cond xy (Pair (e .x) (e .y)) Other ≡ Pair x y → HeardPair bytes x y
-    by-kind e false kind is h = let z : _≡_ {A = ℕ} 0 1 = cc in absurd (omega arith)
-    by-kind e true kind is h =
-        let xy : e .kind ≡ 64 = eqb-true (e .kind) 64 kind in
-        record { event = e; is = is; kind = xy; alone = xy-alone e xy (heard-formed bytes e is); x-is = cc; y-is = cc }
+pub record HeardQuiet (bytes : List ℕ) : Type 0 where
+  pub event : Event
+  pub is : heard bytes ≡ WellFormed event
+  pub quiet : isQuiet event ≡ true
 
-    by-record : (p : Parsed) → heard bytes ≡ p → bareOf p ≡ Pair x y → HeardPair bytes x y
-    by-record Malformed is h = let z : _≡_ {A = ℕ} 0 1 = cc in absurd (omega arith)
-    by-record (WellFormed e) is h = by-kind e (eqb (e .kind) 64) refl is h
+pub record HeardOther (bytes : List ℕ) (e : Event) : Type 0 where
+  pub is : heard bytes ≡ WellFormed e
+  pub not-xy : e .kind ≡ 64 → ⊥
+  pub not-coordinate : e .kind ≡ 65 → ⊥
+  pub loud : isQuiet e ≡ false
+
+abbrev pub Behind : List ℕ → Heard → Type 0
+Behind bytes (Pair x y) = HeardPair bytes x y
+Behind bytes (Coordinate e) = HeardCoordinate bytes e
+Behind bytes Quiet = HeardQuiet bytes
+Behind bytes (Other e) = HeardOther bytes e
+Behind bytes Unheard = heard bytes ≡ Malformed
+
+module _ (bytes : List ℕ) (told : Heard) where
+  by-kind : (e : Event) (xy coordinate quiet : Bool) → eqb (e .kind) 64 ≡ xy → eqb (e .kind) 65 ≡ coordinate → isQuiet e ≡ quiet → heard bytes ≡ WellFormed e
+      → cond xy (Pair (e .x) (e .y)) (cond coordinate (Coordinate e) (cond quiet Quiet (Other e))) ≡ told → Behind bytes told
+  by-kind e true coordinate quiet xy c q is h =
+      let kind : e .kind ≡ 64 = eqb-true (e .kind) 64 xy in
+      rw (← h) (record { event = e; is = is; kind = kind; alone = xy-alone e kind (heard-event bytes e is .formed); x-is = refl; y-is = refl })
+  by-kind e false true quiet xy c q is h = rw (← h) (record { is = is; kind = eqb-true (e .kind) 65 c })
+  by-kind e false false true xy c q is h = rw (← h) (record { event = e; is = is; quiet = q })
+  by-kind e false false false xy c q is h = rw (← h) (record { is = is; not-xy = eqb-false (e .kind) 64 xy; not-coordinate = eqb-false (e .kind) 65 c; loud = q })
+
+  by-record : (p : Parsed) → heard bytes ≡ p → toldApart p ≡ told → Behind bytes told
+  by-record Malformed is h = rw (← h) is
+  by-record (WellFormed e) is h = by-kind e (eqb (e .kind) 64) (eqb (e .kind) 65) (isQuiet e) refl refl refl is h
+
+  pub behind : toldApart (heard bytes) ≡ told → Behind bytes told
+  behind h = by-record (heard bytes) refl h

@@ -6,7 +6,7 @@ use lib.ListN.{length}
 use lib.Seq.{sets}
 use lib.Dec.{leb, ltb, eqb}
 use Rattle.laws.specs.Blocks.{block}
-use Rattle.layout.specs.Geometry.{geometryBytes, readGeometry}
+use Rattle.geometry_layout.specs.Geometry.{geometryBytes, readGeometry}
 use Rattle.kinds.specs.Lanes.{usable, spanIn, lentIn, everyLane}
 use Rattle.kinds.specs.declared.geometry.Geometry.{Geometry}
 use Rattle.kinds.specs.declared.geometry.Lent.{Lent}
@@ -17,19 +17,19 @@ use Rattle.kinds.specs.declared.geometry.Judged.the-variants.{Good, Bad}
 
 -- how many whole records a table has
 abbrev pub recordsLent : List ℕ → ℕ
-recordsLent T = length T / 64
+recordsLent table = length table / 64
 
 -- A geometry table is bad if its length is no whole number of records or it has none.
 abbrev pub tableGood : List ℕ → Bool
-tableGood T = eqb (length T % 64) 0 && not (eqb (recordsLent T) 0)
+tableGood table = eqb (length table % 64) 0 && not (eqb (recordsLent table) 0)
 
 -- A record is bad if its number is past the table or 4,095,
 unfoldable pub hasRecord : List ℕ → ℕ → Bool
-hasRecord T n = tableGood T && ltb n (recordsLent T) && ltb n 4096
+hasRecord table n = tableGood table && ltb n (recordsLent table) && ltb n 4096
 
 -- a spare byte or present bit 128 is set, an absent list has a start or count (the layout says so of a record's own bytes),
 unfoldable pub recordIn : List ℕ → ℕ → Judged
-recordIn T n = readGeometry (block 64 T n)
+recordIn table n = readGeometry (block 64 table n)
 
 -- a list passes its pool's lent or usable end,
 abbrev pub inPool : Span → ℕ → ℕ → Bool
@@ -49,8 +49,8 @@ judged Bad pools n lent = Bad
 judged (Good g) pools n lent = cond (listsIn g pools n lent) (Good g) Bad
 
 unfoldable pub recordAt : List ℕ → Lent → ℕ → Judged
-recordAt T pools n = cond (hasRecord T n) (judged (recordIn T n) pools n (recordsLent T)) Bad
+recordAt table pools n = cond (hasRecord table n) (judged (recordIn table n) pools n (recordsLent table)) Bad
 
 -- ---- a record put down
 unfoldable pub putRecord : List ℕ → ℕ → Geometry → List ℕ
-putRecord T n g = sets T (64 * n) (geometryBytes g)
+putRecord table n g = sets table (64 * n) (geometryBytes g)

@@ -1,55 +1,44 @@
 // The log: event records one after the other.
+use crate::room::has_room;
 use kinds::answer::Answer;
 use kinds::event::Bare;
 use kinds::event::Event;
-use kinds::event::Parsed;
-use kinds::event::Valued;
+use kinds::event::Heard;
 use kinds::refusal;
-use kinds::usable;
 ghost use mathlib.Core.Path.{_≡_};
-ghost use Rattle.laws.specs.Script.{one, out, roomAt, run};
-ghost use Rattle.kinds.specs.Event.{bareOf, valuedOf, quietOf};
+ghost use lib.ListN.{length};
+ghost use Rattle.laws.specs.Script.{one, out, run};
+ghost use Rattle.kinds.specs.declared.event.Event.{Event};
+ghost use Rattle.kinds.specs.Event.{WellFormed, toldApart, BareOf};
 ghost use Rattle.store.specs.Log.{events, heard};
 
-// The event that bytes are, or malformed.
-pub fn hear(bytes: &[u8]) -> Parsed
-    ensures { λ r. ⌜ r ≡ heard (now (bytes .entry)) ⌝ }
+// What bytes are: a pair, a coordinate, a begin that sets no type, any other event, or malformed.
+pub fn hear(bytes: &[u8]) -> Heard
+    ensures { λ r. ⌜ r ≡ toldApart (heard (now (bytes .entry))) ⌝ }
 {
-    layout::read_event(bytes)
+    event_layout::read_event(bytes)
 }
 
-// The pair that bytes are if they are an xy event.
+// The pair that bytes are if they are an xy event: a quick look, for a caller that gives a pair by itself.
 pub fn hear_bare(bytes: &[u8]) -> Bare
-    ensures { λ r. ⌜ r ≡ bareOf (heard (now (bytes .entry))) ⌝ }
+    ensures { λ r. ⌜ BareOf (heard (now (bytes .entry))) r ⌝ }
 {
-    layout::read_bare(bytes)
+    event_layout::read_bare(bytes)
 }
 
-// The event that bytes are if they are a coordinate.
-pub fn hear_valued(bytes: &[u8]) -> Valued
-    ensures { λ r. ⌜ r ≡ valuedOf (heard (now (bytes .entry))) ⌝ }
+// The whole event of bytes that are heard as one: `hear` leaves out an index, and all that a begin says.
+pub fn event_in(bytes: &[u8]) -> Event
+    requires { ⌜ length (now bytes) ≡ 64 ⌝ }
+    ensures { λ r. ⌜ ((e : Event) → heard (now (bytes .entry)) ≡ WellFormed e → r ≡ e) ⌝ }
 {
-    layout::read_valued(bytes)
-}
-
-// Whether bytes are a begin that sets no type.
-pub fn hear_quiet(bytes: &[u8]) -> bool
-    ensures { λ r. ⌜ r ≡ quietOf (heard (now (bytes .entry))) ⌝ }
-{
-    layout::read_quiet(bytes)
-}
-
-fn has_room(log: &[u8], count: usize) -> bool
-    ensures { λ r. ⌜ r ≡ roomAt 64 (now (log .entry)) count ⌝ }
-{
-    (count < usable::LOG_RECORDS) & (count < log.len() / 64)
+    event_layout::event_of(bytes)
 }
 
 // Writes the next record of a log that has `count` of them, or refuses with 9.
 pub fn say(log: &mut [u8], count: usize, e: Event) -> Answer
     ensures { λ r. ⌜ run events (one e) (now (log .entry)) count ≡ out (r .number) (r .count) (now (log .exit)) ⌝ }
 {
-    if !has_room(log, count) {
+    if !has_room(log, 64, count) {
         return Answer {
             number: refusal::LOG_FULL,
             count,
@@ -57,7 +46,7 @@ pub fn say(log: &mut [u8], count: usize, e: Event) -> Answer
     }
     let from = 64 * count;
     let end = from + 64;
-    layout::put_event(&mut log[from..end], e);
+    event_layout::put_event(&mut log[from..end], e);
     Answer {
         number: refusal::DONE,
         count: count + 1,

@@ -91,7 +91,7 @@ pub fn record_at(table: &[u8], pools: Lent, n: usize) -> Judged
     }
     let from = 64 * n;
     let end = from + 64;
-    let read = layout::read_geometry(&table[from..end]);
+    let read = geometry_layout::read_geometry(&table[from..end]);
     judge(read, pools, n, table.len() / 64)
 }
 
@@ -121,7 +121,7 @@ pub fn lone_list_at(table: &[u8], lent: usize, n: usize) -> Lone
     }
     let from = 64 * n;
     let end = from + 64;
-    let read = layout::lone_list(&table[from..end]);
+    let read = geometry_layout::lone_list(&table[from..end]);
     in_xy_pool(read, lent)
 }
 
@@ -132,5 +132,5 @@ pub fn put_record(table: &mut [u8], n: usize, g: Geometry)
 {
     let from = 64 * n;
     let end = from + 64;
-    layout::put_geometry(&mut table[from..end], g);
+    geometry_layout::put_geometry(&mut table[from..end], g);
 }

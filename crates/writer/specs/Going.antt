@@ -2,55 +2,60 @@
 use mathlib.Core.Path.{_≡_, refl, sym, ap, _∙_}
 use mathlib.Core.Bool.{Bool, true, false, cond}
 use mathlib.Core.List.{List}
-use Prim.Native.Nat.{ℕ, suc, _+_, _-_, _*_, _/_, _≤_, _<_}
+use Prim.Native.Nat.{ℕ, suc, _+_, _-_, _*_, _/_, _%_, _≤_, _<_}
 use native.Mathlib.Omega.{arith}
-use lib.Dec.{leb, eqb}
-use lib.ListN.{length, take, drop, length-drop}
+use lib.Dec.{eqb}
+use lib.ListN.{length, drop, length-drop, length-take}
 use lib.Seq.{take-all}
-use borrow.Author.Tests.{leb-false, eqb-true, eqb-false}
-use Rattle.store.specs.Lists.{poolsOf, lentOf}
+use borrow.Author.Tests.{eqb-true, eqb-false}
+use Rattle.kinds.specs.Event.{WellFormed, Malformed}
+use Rattle.kinds.specs.declared.event.Event.{Event}
+use Rattle.kinds.specs.declared.geometry.Lent.{Lent}
+use Rattle.store.specs.Lists.{lentOf}
+use Rattle.store.specs.Log.{heard}
+use Rattle.store.specs.LogLaws.{not-whole}
 use Rattle.store.specs.Records.{recordsLent}
-use Rattle.writer.specs.declared.many.Took.{Took}
-use Rattle.writer.specs.declared.state.Pending.{Pending}
-use Rattle.writer.specs.declared.state.State.{State}
-use Rattle.writer.specs.declared.state.Wrote.{Wrote}
-use Rattle.writer.specs.State.{Mem, memOf, Outcome, outcome, wrote}
-use Rattle.writer.specs.Calls.{eventCall}
-use Rattle.writer.specs.Events.{recordOf, recordsIn, Progress, took, progress, eventsFrom, eventsCall, none-left, went-on, stopped}
-use Rattle.writer.specs.Ready.{Ready, same-ready, event-ready}
+use Rattle.runs.specs.declared.took.Took.{Took}
+use Rattle.writing.specs.declared.state.Pending.{Pending}
+use Rattle.writing.specs.declared.state.State.{State}
+use Rattle.writing.specs.declared.state.Wrote.{Wrote}
+use Rattle.writing.specs.State.{withPending, Mem, Outcome, outcome, wrote}
+use Rattle.writing.specs.Calls.{isReady, eventCall}
+use Rattle.writing.specs.Apart.{is-ready, was-ready}
+use Rattle.writing.specs.Ends.{malformed}
+use Rattle.runs.specs.Events.{recordOf, recordsIn, restNumber, Progress, took, progress, eventsFrom, eventsCall, none-left, went-on, stopped}
+use Rattle.runs.specs.Plain.{blockedNumber}
+use Rattle.writing.specs.Ready.{Ready, same-ready, event-ready}
 use Rattle.writer.specs.Refused.{event-unchanged}
-use Rattle.writer.specs.Run.{withPending, PlainTaken}
+use Rattle.runs.specs.Run.{Values, memWith, Run, BlockedAt}
 
--- the bytes from a record's start up to its end, or to the last
-pub record-lent : (bytes : List ℕ) (i n : ℕ) → 64 * i < length bytes → n ≡ cond (leb 64 (length bytes - 64 * i)) 64 (length bytes - 64 * i) → take (64 * i + n - 64 * i) (drop (64 * i) bytes) ≡ recordOf bytes i
-record-lent bytes i n h is = ap (λ (w : ℕ). take w (drop (64 * i) bytes)) wide ∙ by-rest (leb 64 (length bytes - 64 * i)) refl
-  where
-    wide : 64 * i + n - 64 * i ≡ cond (leb 64 (length bytes - 64 * i)) 64 (length bytes - 64 * i)
-    wide = omega (arith, is)
-
-    by-rest : (b : Bool) → leb 64 (length bytes - 64 * i) ≡ b → take (cond b 64 (length bytes - 64 * i)) (drop (64 * i) bytes) ≡ recordOf bytes i
-    by-rest true b = refl
-    by-rest false b =
-        let short : length bytes - 64 * i < 64 = leb-false 64 (length bytes - 64 * i) b in
-        let long = length-drop (64 * i) bytes in
-        take-all (length bytes - 64 * i) (drop (64 * i) bytes) (omega arith) ∙ sym (take-all 64 (drop (64 * i) bytes) (omega arith))
-
-pub record Going (bytes : List ℕ) (s₀ : State) (k₀ : Mem) (taken : ℕ) (s : State) (k : Mem) : Type 0 where
-  pub within : taken ≤ recordsIn bytes
+pub record Going (bytes : List ℕ) (s₀ : State) (k₀ : Mem) (ready : Bool) (taken : ℕ) (s : State) (k : Mem) : Type 0 where
+  pub within : taken ≤ length bytes / 64
   pub table : length (k .table) ≡ length (k₀ .table)
   pub pools : lentOf (k .pools) ≡ lentOf (k₀ .pools)
+  pub tells : isReady s (recordsLent (k .table)) (lentOf (k .pools)) ≡ ready
   pub rest : eventsFrom (recordsIn bytes - taken) taken bytes s k ≡ eventsCall s₀ k₀ bytes
 
-pub begun : (bytes : List ℕ) (s : State) (k : Mem) → Going bytes s k 0 s k
+pub begun : (bytes : List ℕ) (s : State) (k : Mem) {records : ℕ} {pools : Lent} {ready : Bool} → records ≡ recordsLent (k .table) → pools ≡ lentOf (k .pools) → ready ≡ isReady s records pools → Going bytes s k ready 0 s k
 unfolding eventsCall
-begun bytes s k =
+begun bytes s k records words tells =
     let all : recordsIn bytes - 0 ≡ recordsIn bytes = omega arith in
-    record { within = omega arith; table = refl; pools = refl; rest = ap (λ (n : ℕ). eventsFrom n 0 bytes s k) all }
+    record { within = omega arith; table = refl; pools = refl; tells = sym (tells ∙ (λ i. isReady s (records i) (words i))); rest = ap (λ (n : ℕ). eventsFrom n 0 bytes s k) all }
 
-module _ {bytes : List ℕ} {s₀ : State} {k₀ : Mem} {taken : ℕ} {s : State} {k : Mem} (so-far : Going bytes s₀ k₀ taken s k) where
-  pub at-end : recordsIn bytes ≤ taken → progress (took 0 taken s) k ≡ eventsCall s₀ k₀ bytes
-  at-end end = none-left taken bytes s k (omega arith) ∙ so-far .rest
+-- ---- a run of plain events
+pub at-run : {bytes : List ℕ} {s₀ : State} {k₀ : Mem} {ready : Bool} {from : ℕ} {s : State} {table ends : List ℕ} {v : Values} {taken : ℕ} {p : Pending} {v′ : Values}
+    → Going bytes s₀ k₀ ready from s (memWith table ends v) → Run bytes ready from (s .pending) v taken p v′ → Going bytes s₀ k₀ ready taken (withPending s p) (memWith table ends v′)
+at-run {s} {table} {ends} so-far run =
+    record {
+      within = run .within;
+      table = so-far .table;
+      pools = (λ i. record { xy = run .long-xy i; ends = length ends; z = run .long-z i; m = run .long-m i; t = run .long-t i; tm = run .long-tm i }) ∙ so-far .pools;
+      tells = run .still s table ends (so-far .tells);
+      rest = run .rest s table ends (so-far .tells) ∙ so-far .rest;
+    }
 
+module _ {bytes : List ℕ} {s₀ : State} {k₀ : Mem} {ready : Bool} {taken : ℕ} {s : State} {k : Mem} (so-far : Going bytes s₀ k₀ ready taken s k) where
+  -- ---- a record that is left: it is refused, or taken
   module _ (more-left : taken < recordsIn bytes) {r : Wrote} {k′ : Mem} (is : outcome r k′ ≡ eventCall s k (recordOf bytes taken)) where
     all : eventsFrom (suc (recordsIn bytes - (taken + 1))) taken bytes s k ≡ eventsCall s₀ k₀ bytes
     all = let one-less : suc (recordsIn bytes - (taken + 1)) ≡ recordsIn bytes - taken = omega arith in ap (λ (n : ℕ). eventsFrom n taken bytes s k) one-less ∙ so-far .rest
@@ -61,26 +66,44 @@ module _ {bytes : List ℕ} {s₀ : State} {k₀ : Mem} {taken : ℕ} {s : State
         let kept : k′ ≡ k = ap (λ (o : Outcome). o .mem) (is ∙ unchanged) in
         ap (progress (took (r .number) taken s)) kept ∙ stopped (recordsIn bytes - (taken + 1)) taken bytes s k is no-more ∙ all
 
-    pub at-taken : r .number ≡ 0 → length (k′ .table) ≡ length (k .table) → lentOf (k′ .pools) ≡ lentOf (k .pools) → Going bytes s₀ k₀ (taken + 1) (r .state) k′
-    at-taken ok table pools =
-        record { within = omega arith; table = table ∙ so-far .table; pools = pools ∙ so-far .pools; rest = went-on (recordsIn bytes - (taken + 1)) taken bytes s k is ok ∙ all }
-
-    pub then-ready : r .number ≡ 0 → length (k′ .table) ≡ length (k .table) → lentOf (k′ .pools) ≡ lentOf (k .pools) → Ready (r .state) (recordsLent (k′ .table)) (lentOf (k′ .pools))
-    then-ready ok table pools =
-        let here = ap (λ (o : Outcome). o .wrote .state) is in
+    pub at-taken : r .number ≡ 0 → taken + 1 ≤ length bytes / 64 → length (k′ .table) ≡ length (k .table) → lentOf (k′ .pools) ≡ lentOf (k .pools) → Going bytes s₀ k₀ ready (taken + 1) (r .state) k′
+    at-taken ok within table pools =
         let accepted = ap (λ (o : Outcome). o .wrote .number) (sym is) ∙ ok in
-        same-ready (sym here) (ap (λ (n : ℕ). n / 64) (sym table)) (sym pools) (event-ready s k (recordOf bytes taken) accepted)
+        let then-ready = event-ready s k (recordOf bytes taken) accepted in
+        record {
+          within = within;
+          table = table ∙ so-far .table;
+          pools = pools ∙ so-far .pools;
+          tells = is-ready (r .state) (recordsLent (k′ .table)) (lentOf (k′ .pools)) (same-ready (sym (ap (λ (o : Outcome). o .wrote .state) is)) (ap (λ (n : ℕ). n / 64) (sym table)) (sym pools) then-ready)
+              ∙ sym (was-ready s k (recordOf bytes taken) accepted) ∙ so-far .tells;
+          rest = went-on (recordsIn bytes - (taken + 1)) taken bytes s k is ok ∙ all;
+        }
 
-module _ {bytes : List ℕ} {s₀ : State} {k₀ : Mem} {from : ℕ} {s : State} {T X E Z M H K : List ℕ} where
-  pub at-plain : {taken : ℕ} {p : Pending} {X′ Z′ M′ H′ K′ : List ℕ} → Going bytes s₀ k₀ from s (memOf T X E Z M H K) → Ready s (recordsLent T) (lentOf (poolsOf X E Z M H K)) → PlainTaken bytes from (s .pending) X Z M H K taken p X′ Z′ M′ H′ K′
-      → Going bytes s₀ k₀ taken (withPending s p) (memOf T X′ E Z′ M′ H′ K′)
-  at-plain so-far ready run =
-      record {
-        within = run .within;
-        table = so-far .table;
-        pools = (λ i. record { xy = run .long-xy i; ends = length E; z = run .long-z i; m = run .long-m i; t = run .long-t i; tm = run .long-tm i }) ∙ so-far .pools;
-        rest = run .rest s T E ready ∙ so-far .rest;
-      }
+  -- ---- it is no event, or blocked
+  pub at-malformed : taken < recordsIn bytes → heard (recordOf bytes taken) ≡ Malformed → progress (took 11 taken s) k ≡ eventsCall s₀ k₀ bytes
+  at-malformed more-left is = at-refused more-left (malformed s k (recordOf bytes taken) (sym is) refl) (λ h. omega (arith, h))
+
+  -- ---- every whole record is taken
+  pub at-end : taken ≡ length bytes / 64 → progress (took (restNumber (length bytes)) taken s) k ≡ eventsCall s₀ k₀ bytes
+  at-end end = by-rest (eqb (length bytes % 64) 0) refl
+    where
+      by-rest : (b : Bool) → eqb (length bytes % 64) 0 ≡ b → progress (took (cond b 0 11) taken s) k ≡ eventsCall s₀ k₀ bytes
+      by-rest true b =
+          let none : length bytes % 64 ≡ 0 = eqb-true _ 0 b in
+          none-left taken bytes s k (omega (arith, none, end)) ∙ so-far .rest
+      by-rest false b =
+          let some : length bytes % 64 ≡ 0 → ⊥ = eqb-false _ 0 b in
+          let short : length (recordOf bytes taken) ≡ 64 → ⊥ = λ long. some (omega (arith, long, end, length-take 64 (drop (64 * taken) bytes), length-drop (64 * taken) bytes)) in
+          at-malformed (omega (arith, some, end)) (not-whole (recordOf bytes taken) short)
+
+pub at-blocked : {bytes : List ℕ} {s₀ : State} {k₀ : Mem} {ready : Bool} {taken : ℕ} {s : State} {table ends : List ℕ} {v : Values}
+    → Going bytes s₀ k₀ ready taken s (memWith table ends v) → BlockedAt bytes ready taken (s .pending) v → progress (took (blockedNumber s) taken s) (memWith table ends v) ≡ eventsCall s₀ k₀ bytes
+at-blocked {s} {table} {ends} so-far stop =
+    at-refused so-far (omega (arith, stop .more-left)) (stop .answers s table ends (so-far .tells)) (refuses (s .waiting))
+  where
+    refuses : (waiting : Bool) → _≡_ {A = ℕ} (cond waiting 15 12) 0 → ⊥
+    refuses true h = omega (arith, h)
+    refuses false h = omega (arith, h)
 
 -- ---- a call with one whole record comes to what the event comes to
 abbrev answered : Progress → Outcome

@@ -1,14 +1,4 @@
-pub mod State
-pub mod SetType
-pub mod Calls
-pub mod Events
-pub mod Room
-pub mod Ready
-pub mod Move
-pub mod Ends
 pub mod Refused
-pub mod Plain
-pub mod Pair
-pub mod Run
+pub mod OtherCall
 pub mod Going
 pub mod Property

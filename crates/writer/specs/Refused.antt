@@ -4,17 +4,17 @@ use mathlib.Core.Bool.{Bool, true, false, cond}
 use mathlib.Core.List.{List}
 use Prim.Native.Nat.{ℕ, _+_}
 use borrow.Author.Tests.{ne-eqb}
-use Rattle.kinds.specs.declared.event.Parsed.{Parsed}
-use Rattle.kinds.specs.declared.event.Parsed.the-variants.{WellFormed, Malformed}
+use Rattle.kinds.specs.Event.{Parsed}
+use Rattle.kinds.specs.Event.{WellFormed, Malformed}
 use Rattle.kinds.specs.declared.geometry.Lent.{Lent}
 use Rattle.store.specs.Log.{heard}
-use Rattle.writer.specs.declared.state.State.{State}
-use Rattle.writer.specs.declared.state.Wrote.{Wrote}
-use Rattle.writer.specs.declared.set_type.Typed.{Typed}
-use Rattle.writer.specs.declared.set_type.Typed.the-variants.{Set, Mixed}
-use Rattle.writer.specs.declared.ask.Ask.{Ask}
-use Rattle.writer.specs.State.{Mem, Outcome, outcome, settled, wrote}
-use Rattle.writer.specs.Calls.{noWords, hasRoom, askOf, recordsFor, stateAfter, roomOr, decideTyped, decideEvent, eventWith, eventOf, eventCall, finished, decideFinish, finishCall, renewed, decideNext, nextCall}
+use Rattle.writing.specs.declared.state.State.{State}
+use Rattle.writing.specs.declared.state.Wrote.{Wrote}
+use Rattle.writing.specs.declared.set_type.Typed.{Typed}
+use Rattle.writing.specs.declared.set_type.Typed.the-variants.{Set, Mixed}
+use Rattle.writing.specs.declared.ask.Ask.{Ask}
+use Rattle.writing.specs.State.{Mem, Outcome, outcome, settled, wrote}
+use Rattle.writing.specs.Calls.{noWords, hasRoom, askOf, recordsFor, stateAfter, roomOr, decideTyped, decideEvent, eventWith, eventOf, eventCall, finished, decideFinish, finishCall, renewed, decideNext, nextCall}
 
 -- an answer other than 0 hands the state back as it was
 abbrev Kept : State → Wrote → Type 0
@@ -42,17 +42,17 @@ wait-kept s false r kept h = refl
 settled-kept : (s : State) (r : Wrote) (k after : Mem) → Kept s r → Unchanged s k (settled r k after)
 settled-kept s r k after kept h = rw (ne-eqb (r .number) 0 h) (ap (λ (w : Wrote). outcome w k) (kept h))
 
-event-kept : (s : State) (a : Ask) (lent : ℕ) (pools : Lent) → Kept s (decideEvent s a lent pools)
+event-kept : (s : State) (a : Ask) (records : ℕ) (pools : Lent) → Kept s (decideEvent s a records pools)
 unfolding decideEvent
-event-kept s a lent pools h = turn-kept s (s .waiting) _ (typed-kept s a (hasRoom (s .pending) (a .added) (recordsFor s a) lent pools) (a .typed)) h
+event-kept s a records pools h = turn-kept s (s .waiting) _ (typed-kept s a (hasRoom (s .pending) (a .added) (recordsFor s a) records pools) (a .typed)) h
 
-finish-kept : (s : State) (lent : ℕ) (pools : Lent) → Kept s (decideFinish s lent pools)
+finish-kept : (s : State) (records : ℕ) (pools : Lent) → Kept s (decideFinish s records pools)
 unfolding decideFinish
-finish-kept s lent pools h = turn-kept s (s .waiting) _ (room-kept s (finished s) (hasRoom (s .pending) noWords (s .parts + 1) lent pools)) h
+finish-kept s records pools h = turn-kept s (s .waiting) _ (room-kept s (finished s) (hasRoom (s .pending) noWords (s .parts + 1) records pools)) h
 
-next-kept : (s : State) (lent : ℕ) (pools : Lent) → Kept s (decideNext s lent pools)
+next-kept : (s : State) (records : ℕ) (pools : Lent) → Kept s (decideNext s records pools)
 unfolding decideNext
-next-kept s lent pools h = wait-kept s (s .waiting) _ (room-kept s (renewed s) (hasRoom (s .pending) noWords (s .parts + 1) lent pools)) h
+next-kept s records pools h = wait-kept s (s .waiting) _ (room-kept s (renewed s) (hasRoom (s .pending) noWords (s .parts + 1) records pools)) h
 
 pub event-unchanged : (s : State) (k : Mem) (bytes : List ℕ) → Unchanged s k (eventCall s k bytes)
 unfolding eventCall eventWith

@@ -1,33 +1,25 @@
 // The geometry writer: events to tree, over the store.
-mod ask;
-mod decide;
 mod many;
-mod memory;
-mod pair;
-mod part;
-mod pending;
-mod plain;
+mod other;
 mod properties;
-mod record;
-mod room;
-mod set_type;
-mod state;
 
 use kinds::event::Bare;
 use kinds::geometry::Lent;
 use kinds::refusal;
-pub use many::Took;
 pub use many::events;
-use pair::take_alone;
 pub use properties::property;
-pub use state::Pending;
-pub use state::State;
-pub use state::Typing;
-pub use state::Words;
-pub use state::Wrote;
+use runs::take_alone;
+use writing::decide::decide_finish;
+use writing::decide::decide_next;
+use writing::room::is_ready;
+use writing::state::Pending;
+use writing::state::State;
+use writing::state::Typing;
+use writing::state::Words;
+use writing::state::Wrote;
 ghost use mathlib.Core.Path.{_≡_};
-ghost use Rattle.writer.specs.State.{memOf, outcome};
-ghost use Rattle.writer.specs.Calls.{started, eventCall, finishCall, nextCall};
+ghost use Rattle.writing.specs.State.{memOf, outcome};
+ghost use Rattle.writing.specs.Calls.{started, eventCall, finishCall, nextCall};
 
 pub fn start(declared: u8, detect: bool, promote: bool) -> State
     ensures { λ r. ⌜ r ≡ started declared detect promote ⌝ }
@@ -69,20 +61,16 @@ pub fn event(
     t: &mut [u64],
     tm: &mut [u64],
 ) -> Wrote
-    ensures { λ r. ⌜ outcome r (memOf (now (table .exit)) (now (xy .exit)) (now (ends .exit)) (now (z .exit)) (now (m .exit)) (now (t .exit)) (now (tm .exit))) ≡ eventCall s (memOf (now (table .entry)) (now (xy .entry)) (now (ends .entry)) (now (z .entry)) (now (m .entry)) (now (t .entry)) (now (tm .entry))) (now (bytes .entry)) ⌝ }
+    ensures { λ r.
+        let before = memOf (now (table .entry)) (now (xy .entry)) (now (ends .entry)) (now (z .entry)) (now (m .entry)) (now (t .entry)) (now (tm .entry)) in
+        let after = memOf (now (table .exit)) (now (xy .exit)) (now (ends .exit)) (now (z .exit)) (now (m .exit)) (now (t .exit)) (now (tm .exit)) in
+        ⌜ outcome r after ≡ eventCall s before (now (bytes .entry)) ⌝ }
 {
     let bare = store::hear_bare(bytes);
     if let Bare::Pair { x, y } = bare {
-        let lent = store::records_lent(table);
-        let pools = Lent {
-            xy: xy.len(),
-            ends: ends.len(),
-            z: z.len(),
-            m: m.len(),
-            t: t.len(),
-            tm: tm.len(),
-        };
-        return take_alone(s, x, y, lent, pools, xy);
+        let pools = Lent::new(xy.len(), ends.len(), z.len(), m.len(), t.len(), tm.len());
+        let records = store::records_lent(table);
+        return take_alone(s, is_ready(s, records, pools), x, y, xy);
     }
     if bytes.len() != 64 {
         return Wrote {
@@ -111,23 +99,16 @@ pub fn finish(
     t: &[u64],
     tm: &[u64],
 ) -> Wrote
-    ensures { λ r. ⌜ outcome r (memOf (now (table .exit)) (now (xy .exit)) (now (ends .exit)) (now (z .exit)) (now (m .exit)) (now (t .exit)) (now (tm .exit))) ≡ finishCall s (memOf (now (table .entry)) (now (xy .entry)) (now (ends .entry)) (now (z .entry)) (now (m .entry)) (now (t .entry)) (now (tm .entry))) ⌝ }
+    ensures { λ r.
+        let before = memOf (now (table .entry)) (now (xy .entry)) (now (ends .entry)) (now (z .entry)) (now (m .entry)) (now (t .entry)) (now (tm .entry)) in
+        let after = memOf (now (table .exit)) (now (xy .exit)) (now (ends .exit)) (now (z .exit)) (now (m .exit)) (now (t .exit)) (now (tm .exit)) in
+        ⌜ outcome r after ≡ finishCall s before ⌝ }
 {
-    let lent = store::records_lent(table);
-    let finished = decide::decide_finish(
-        s,
-        lent,
-        Lent {
-            xy: xy.len(),
-            ends: ends.len(),
-            z: z.len(),
-            m: m.len(),
-            t: t.len(),
-            tm: tm.len(),
-        },
-    );
+    let pools = Lent::new(xy.len(), ends.len(), z.len(), m.len(), t.len(), tm.len());
+    let records = store::records_lent(table);
+    let finished = decide_finish(s, records, pools);
     if finished.number == refusal::DONE {
-        memory::put_root(table, s);
+        pools::put_root(table, s);
     }
     finished
 }
@@ -143,28 +124,21 @@ pub fn next(
     t: &mut [u64],
     tm: &mut [u64],
 ) -> Wrote
-    ensures { λ r. ⌜ outcome r (memOf (now (table .exit)) (now (xy .exit)) (now (ends .exit)) (now (z .exit)) (now (m .exit)) (now (t .exit)) (now (tm .exit))) ≡ nextCall s (memOf (now (table .entry)) (now (xy .entry)) (now (ends .entry)) (now (z .entry)) (now (m .entry)) (now (t .entry)) (now (tm .entry))) ⌝ }
+    ensures { λ r.
+        let before = memOf (now (table .entry)) (now (xy .entry)) (now (ends .entry)) (now (z .entry)) (now (m .entry)) (now (t .entry)) (now (tm .entry)) in
+        let after = memOf (now (table .exit)) (now (xy .exit)) (now (ends .exit)) (now (z .exit)) (now (m .exit)) (now (t .exit)) (now (tm .exit)) in
+        ⌜ outcome r after ≡ nextCall s before ⌝ }
 {
-    let lent = store::records_lent(table);
-    let renewed = decide::decide_next(
-        s,
-        lent,
-        Lent {
-            xy: xy.len(),
-            ends: ends.len(),
-            z: z.len(),
-            m: m.len(),
-            t: t.len(),
-            tm: tm.len(),
-        },
-    );
+    let pools = Lent::new(xy.len(), ends.len(), z.len(), m.len(), t.len(), tm.len());
+    let records = store::records_lent(table);
+    let renewed = decide_next(s, records, pools);
     if renewed.number == refusal::DONE {
-        memory::move_words(xy, s.pending.xy);
-        memory::move_ends(ends, s.pending.ends);
-        memory::move_words(z, s.pending.z);
-        memory::move_words(m, s.pending.m);
-        memory::move_words(t, s.pending.t);
-        memory::move_words(tm, s.pending.tm);
+        pools::move_words(xy, s.pending.xy);
+        pools::move_ends(ends, s.pending.ends);
+        pools::move_words(z, s.pending.z);
+        pools::move_words(m, s.pending.m);
+        pools::move_words(t, s.pending.t);
+        pools::move_words(tm, s.pending.tm);
     }
     renewed
 }

@@ -1,8 +1,8 @@
 // A property of the feature in hand: its bytes stand beside the geometry, and the state counts them.
-use crate::state::State;
-use crate::state::Wrote;
+use writing::state::State;
+use writing::state::Wrote;
 ghost use mathlib.Core.Path.{_≡_};
-ghost use Rattle.props.specs.Writing.{bytesAfter};
+ghost use Rattle.property_writer.specs.Writing.{bytesAfter};
 ghost use Rattle.writer.specs.Property.{propertyCall};
 
 // Lays a value down after the feature's other property bytes. Refused: 15, 16, 11, 6, 12.
@@ -10,7 +10,15 @@ pub fn property(s: State, column: u32, kind: u8, bits: u64, text: &[u8], buffer:
     ensures answer { λ r. ⌜ r ≡ propertyCall s column kind bits (now (text .entry)) (now (buffer .entry)) ⌝ }
     ensures bytes { λ _. ⌜ now (buffer .exit) ≡ bytesAfter (s .waiting) (s .properties) column kind bits (now (text .entry)) (now (buffer .entry)) ⌝ }
 {
-    let put = props::put_property(s.waiting, s.properties, column, kind, bits, text, buffer);
+    let put = property_writer::put_property(
+        s.waiting,
+        s.properties,
+        column,
+        kind,
+        bits,
+        text,
+        buffer,
+    );
     let mut state = s;
     state.properties = put.used;
     Wrote {

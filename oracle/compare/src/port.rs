@@ -1,10 +1,11 @@
 //! The proved library's calls, over memory that a test lends as long as it likes.
-use bintolage::link;
+use bintolage::usable::STATE_WORDS;
+use bintolage::{bare, Tree};
 use original::tree::Store;
 use std::ops::Range;
 
 /// A writer's state, as the library keeps it.
-pub type Words = [u32; 16];
+pub use bintolage::StateWords as Words;
 
 /// Everything that is lent to a writer: a table, six pools and a property buffer.
 #[derive(Clone, Debug, PartialEq, Eq)]
@@ -43,9 +44,24 @@ impl Memory {
         }
     }
 
-    pub fn lengths(&self) -> Lengths {
+    /// Its lists as far as they are lent, which is no further than there is.
+    fn lend(&mut self, lent: Lengths) -> bintolage::Memory<'_> {
+        let [z, m, t, tm] = &mut self.values;
+        bintolage::Memory {
+            table: &mut self.table[..lent[TABLE]],
+            xy: &mut self.xy[..lent[1]],
+            ends: &mut self.ends[..lent[2]],
+            z: &mut z[..lent[3]],
+            m: &mut m[..lent[4]],
+            t: &mut t[..lent[5]],
+            tm: &mut tm[..lent[6]],
+        }
+    }
+
+    /// The whole of them, to be read.
+    fn tree(&self) -> Tree<'_> {
         let [z, m, t, tm] = &self.values;
-        [self.table.len(), self.xy.len(), self.ends.len(), z.len(), m.len(), t.len(), tm.len(), self.properties.len()]
+        Tree { table: &self.table, xy: &self.xy, ends: &self.ends, z, m, t, tm }
     }
 
     /// A word of a pool, by the pool's number in the paper's order.
@@ -75,110 +91,51 @@ impl Memory {
 }
 
 pub fn start(declared: u8, detect: bool, promote: bool) -> Words {
-    let mut state = [0xC0DE_C0DE; 16];
-    // SAFETY: the state is sixteen words.
-    unsafe { link::bintolage_start(declared, detect as u8, promote as u8, state.as_mut_ptr()) };
+    let mut state = [0xC0DE_C0DE; STATE_WORDS];
+    bare::start(declared, detect, promote, &mut state);
     state
 }
 
-/// The lists of a memory as far as they are lent, as the library's calls take them.
-macro_rules! lent {
-    ($call:ident ($($first:expr),*) $memory:ident $lent:ident $pointer:ident ($($last:expr),*)) => {{
-        let [_, xy, ends, z, m, t, tm, _] = $lent;
-        let [zs, ms, ts, tms] = &mut $memory.values;
-        // SAFETY: each slice is lent within its vector.
-        unsafe {
-            link::$call(
-                $($first,)* $memory.xy.$pointer(), xy, $memory.ends.$pointer(), ends, zs.$pointer(), z, ms.$pointer(), m,
-                ts.$pointer(), t, tms.$pointer(), tm $(, $last)*
-            )
-        }
-    }};
-}
-
-fn check(memory: &Memory, lent: Lengths) {
-    assert!(memory.lengths().iter().zip(lent).all(|(held, lent)| *held >= lent), "a test lends no more than there is");
-}
-
 pub fn event(state: &mut Words, event: &[u8], memory: &mut Memory, lent: Lengths) -> u8 {
-    check(memory, lent);
-    let (state, table) = (state.as_mut_ptr(), memory.table.as_mut_ptr());
-    lent!(bintolage_event(state, event.as_ptr(), event.len(), table, lent[TABLE]) memory lent as_mut_ptr ())
+    bare::event(state, event, &mut memory.lend(lent))
 }
 
 /// The number, and how many events were taken.
 pub fn events(state: &mut Words, events: &[u8], memory: &mut Memory, lent: Lengths) -> (u8, usize) {
-    check(memory, lent);
-    let (state, table) = (state.as_mut_ptr(), memory.table.as_mut_ptr());
     let mut taken = 0xC0DE_C0DE;
-    let number = lent!(bintolage_events(state, events.as_ptr(), events.len(), table, lent[TABLE]) memory lent as_mut_ptr (&mut taken));
+    let number = bare::events(state, events, &mut memory.lend(lent), &mut taken);
     (number, taken)
 }
 
 pub fn property(state: &mut Words, column: u32, kind: u8, bits: u64, text: &[u8], memory: &mut Memory, lent: Lengths) -> u8 {
-    check(memory, lent);
-    let buffer = memory.properties.as_mut_ptr();
-    // SAFETY: the buffer is lent within its vector.
-    unsafe {
-        let (text, text_length) = (text.as_ptr(), text.len());
-        link::bintolage_property(state.as_mut_ptr(), column, kind, bits, text, text_length, buffer, lent[PROPERTIES])
-    }
+    bare::property(state, column, kind, bits, text, &mut memory.properties[..lent[PROPERTIES]])
 }
 
 pub fn finish(state: &mut Words, memory: &mut Memory, lent: Lengths) -> u8 {
-    check(memory, lent);
-    let (state, table) = (state.as_mut_ptr(), memory.table.as_mut_ptr());
-    lent!(bintolage_finish(state, table, lent[TABLE]) memory lent as_ptr ())
+    bare::finish(state, &mut memory.lend(lent))
 }
 
 pub fn next(state: &mut Words, memory: &mut Memory, lent: Lengths) -> u8 {
-    check(memory, lent);
-    let (state, table) = (state.as_mut_ptr(), memory.table.as_ptr());
-    lent!(bintolage_next(state, table, lent[TABLE]) memory lent as_mut_ptr ())
+    bare::next(state, &mut memory.lend(lent))
 }
 
 /// The number, and how many records the log has then.
-pub fn read(memory: &mut Memory, declared: u8, flags: u8, log: &mut [u8]) -> (u8, u32) {
-    let lent = memory.lengths();
-    let table = memory.table.as_ptr();
+pub fn read(memory: &Memory, declared: u8, flags: u8, log: &mut [u8]) -> (u8, u32) {
     let mut count = 0xC0DE_C0DE;
-    let number =
-        lent!(bintolage_read(table, lent[TABLE]) memory lent as_ptr (declared, flags, log.as_mut_ptr(), log.len(), &mut count));
+    let number = bare::read(memory.tree(), declared, flags, log, &mut count);
     (number, count)
 }
 
 /// The number, and the four edges.
-pub fn edges(memory: &mut Memory, n: u32) -> (u8, [u64; 4]) {
-    let lent = memory.lengths();
-    let table = memory.table.as_ptr();
+pub fn edges(memory: &Memory, n: u32) -> (u8, [u64; 4]) {
     let mut edges = [0xC0DE_C0DE; 4];
-    let number = lent!(bintolage_box(table, lent[TABLE]) memory lent as_ptr (n, edges.as_mut_ptr()));
+    let number = bare::bbox(memory.tree(), n, &mut edges);
     (number, edges)
 }
 
 /// The number, how many records the log has then, and whether the reading stopped.
 pub fn read_properties(bytes: &[u8], columns: Option<&[u8]>, stop: u32, log: &mut [u8]) -> (u8, u32, u8) {
-    let has_columns = columns.is_some() as u8;
-    let columns = columns.unwrap_or_default();
     let (mut count, mut stopped) = (0xC0DE_C0DE, 0xC0);
-    // SAFETY: each slice is given with its length.
-    let number = unsafe {
-        let (columns, columns_length) = (columns.as_ptr(), columns.len());
-        let (bytes, bytes_length) = (bytes.as_ptr(), bytes.len());
-        let (log, log_length) = (log.as_mut_ptr(), log.len());
-        let (count, stopped) = (&mut count, &mut stopped);
-        link::bintolage_read_properties(
-            bytes,
-            bytes_length,
-            has_columns,
-            columns,
-            columns_length,
-            stop,
-            log,
-            log_length,
-            count,
-            stopped,
-        )
-    };
+    let number = bare::read_properties(bytes, columns, stop, log, &mut count, &mut stopped);
     (number, count, stopped)
 }

@@ -12,11 +12,11 @@ const UNTOUCHED: u8 = 0xA5;
 pub fn compare_tree(tree: &Tree, tally: &mut Tally) -> Result<(), String> {
     let expected = reading::read(&tree.store, tree.declared, tree.flags);
     let given = Memory::of(&tree.store);
-    let mut memory = given.clone();
+    let memory = given.clone();
     for length in log_lengths(expected.events.len(), 64, tree.cut) {
         let (number, events) = expected.cut((length / 64).min(reading::MOST_EVENTS));
         let mut log = vec![UNTOUCHED; length];
-        let (answered, count) = port::read(&mut memory, tree.declared, tree.flags, &mut log);
+        let (answered, count) = port::read(&memory, tree.declared, tree.flags, &mut log);
         if (answered, count as usize) != (number, events.len() / 64) {
             let words = &expected.words;
             return Err(format!(
@@ -29,7 +29,7 @@ pub fn compare_tree(tree: &Tree, tally: &mut Tally) -> Result<(), String> {
         tally.reads += 1;
     }
     tally.read(if tree.declared == 0 { tree.store.table.first().copied().unwrap_or_default() } else { tree.declared });
-    compare_boxes(tree, &mut memory, tally)?;
+    compare_boxes(tree, &memory, tally)?;
     if memory != given {
         return Err("a reading changed what it read".into());
     }
@@ -58,7 +58,7 @@ fn check_log(what: &str, log: &[u8], expected: &[u8]) -> Result<(), String> {
     }
 }
 
-fn compare_boxes(tree: &Tree, memory: &mut Memory, tally: &mut Tally) -> Result<(), String> {
+fn compare_boxes(tree: &Tree, memory: &Memory, tally: &mut Tally) -> Result<(), String> {
     let records = (tree.store.table.len() / 64) as u32;
     for n in [0, tree.cut % (records + 2), tree.cut] {
         let words = tree.store.xy_of(n as usize);

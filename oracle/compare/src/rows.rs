@@ -6,6 +6,7 @@
 use crate::input::{Call, Row, What};
 use crate::port::{self, Lengths, Memory, Words, PROPERTIES, TABLE};
 use crate::tally::{Asked, Tally};
+use bintolage::usable::STATE_WORDS;
 use original::answer::{COLUMN_TOO_LARGE, DONE, MALFORMED, NOT_ITS_TURN, NO_ROOM};
 use original::events::is_malformed;
 use original::feature_writer::peek::State;
@@ -143,7 +144,7 @@ impl<'r> Session<'r> {
         let state = self.rust.state();
         let (parts, properties) = self.waiting.unwrap_or((state.parts, state.properties));
         let bits = u8::from(self.row.detect) | u8::from(self.row.promote) << 1 | u8::from(self.waiting.is_some()) << 2;
-        let mut words = [0; 16];
+        let mut words = [0; STATE_WORDS];
         words[0] = u32::from_le_bytes([state.declared, state.current, state.mode, bits]);
         words[1] = parts as u32;
         words[2] = properties as u32;

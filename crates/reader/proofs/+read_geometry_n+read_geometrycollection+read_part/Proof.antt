@@ -12,10 +12,12 @@ use Rattle.kinds.specs.declared.event.Event.{Event}
 use Rattle.store.specs.Lists.{poolsOf, listsOf, recordWith}
 use Rattle.store.specs.Log.{events}
 use Rattle.reader.specs.Reading.{partsS}
-use Rattle.reader.specs.declared.walk.Walk.{Walk}
+use Rattle.walks.specs.declared.walk.Walk.{Walk}
 use Rattle.reader.specs.Lone.{lone-bounds, lone-fits, part-lone}
-use Rattle.reader.specs.Walks.{Typed, partS, walkS}
-use Rattle.reader.specs.WalkLaws.{in-typed, part-deep, part-bad, part-good, good-record, good-lists, bad-record, walk-own, walk-parts, walk-refused, span-absent, span-there, parts-step, parts-over}
+use Rattle.walks.specs.Walks.{Typed}
+use Rattle.reader.specs.Roles.{partS, walkS}
+use Rattle.walks.specs.WalkLaws.{in-typed}
+use Rattle.reader.specs.RoleLaws.{part-deep, part-bad, part-good, good-record, good-lists, bad-record, walk-own, walk-parts, walk-refused, span-absent, span-there, parts-step, parts-over}
 use Prim.Native.Nat.{ℕ, _<_}
 use borrow.Fn.Kinds.{In}
 use borrow.Fn.PlainCycle.{Measures, is, falls, and}
@@ -30,11 +32,11 @@ use Rattle.reader.proofs.read_part.Kinds as read-part-kinds
 use Rattle.reader.proofs.+read_geometry_n+read_geometrycollection+read_part.Lts-read_part as read-part-lts
 use Rattle.kinds.proofs.event.Event.begin.Reads as begin-reads
 use Rattle.kinds.proofs.event.Event.end.Reads as end-reads
-use Rattle.lines.proofs.read_own.Reads as read-own-reads
-use Rattle.lines.proofs.read_lone_ring.Reads as read-lone-ring-reads
-use Rattle.reader.proofs.lent_of.Reads as lent-of-reads
-use Rattle.reader.proofs.lone_part.Reads as lone-part-reads
-use Rattle.reader.proofs.walk.walk_in.Reads as walk-in-reads
+use Rattle.own_lists.proofs.read_own.Reads as read-own-reads
+use Rattle.lone_ring.proofs.read_lone_ring.Reads as read-lone-ring-reads
+use Rattle.kinds.proofs.geometry.Lent.new.Reads as new-reads
+use Rattle.walks.proofs.lone_part.Reads as lone-part-reads
+use Rattle.walks.proofs.walk_in.Reads as walk-in-reads
 use Rattle.store.proofs.say.Reads as say-reads
 use Rattle.store.proofs.record_at.Reads as record-at-reads
 use Rattle.reader.proofs.+read_geometry_n+read_geometrycollection+read_part.{statement}
@@ -157,8 +159,8 @@ pub +read-geometry-n+read-geometrycollection+read-part-spec : {M : Type 1} → s
       lone-part-reads.Learnt,
       read-lone-ring-reads.Asked,
       read-lone-ring-reads.Learnt,
-      lent-of-reads.Asked,
-      lent-of-reads.Learnt,
+      new-reads.Asked,
+      new-reads.Learnt,
       record-at-reads.Asked,
       record-at-reads.Learnt,
       walk-in-reads.Asked,
@@ -187,8 +189,8 @@ pub +read-geometry-n+read-geometrycollection+read-part-spec : {M : Type 1} → s
     (λ c. search needs)
     (λ c κs. search needs)
     (λ c. omega (arith, pos-of-ne-zero (c .before .before .before .before .before .before .before .before .before .before .if1 .left)))
-    (λ c κs. let a = c .before .before .before .before .before .before .before .before .before .before .before .before .before .before .before .before .before .before .before .args in (omega (arith, pos-of-ne-zero (c .before .before .before .before .before .before .before .before .before .before .if1 .left), c .before .before .before .before .before .before .before .before .before .before .before .before .before .before .before .before .before .before .before .pre .0), (good-lists (a .table .now) (poolsOf (a .xy .now) (a .ends .now) (a .z .now) (a .m .now) (a .t .now) (a .tm .now)) (a .n) (c .before .before .before .before .before .before .lent-of .ensures) (c .before .before .before .before .before .record-at .ensures) (c .before .before .before .g .given .1), rw (c .before .walk-in .ensures) (in-typed (a .role) _))))
+    (λ c κs. let a = c .before .before .before .before .before .before .before .before .before .before .before .before .before .before .before .before .before .before .before .args in (omega (arith, pos-of-ne-zero (c .before .before .before .before .before .before .before .before .before .before .if1 .left), c .before .before .before .before .before .before .before .before .before .before .before .before .before .before .before .before .before .before .before .pre .0), (good-lists (a .table .now) (poolsOf (a .xy .now) (a .ends .now) (a .z .now) (a .m .now) (a .t .now) (a .tm .now)) (a .n) (c .before .before .before .before .before .before .new .ensures) (c .before .before .before .before .before .record-at .ensures) (c .before .before .before .g .given .1), rw (c .before .walk-in .ensures) (in-typed (a .role) _))))
     (λ c. search needs)
     (λ c. search needs)
-    (λ c. let a = c .before .before .before .before .before .before .before .before .before .before .before .before .before .before .before .before .before .before .before .before .before .before .args in rw (part-good (a .flags) (a .role) (a .levels) (recordWith (a .table .now) (poolsOf (a .xy .now) (a .ends .now) (a .z .now) (a .m .now) (a .t .now) (a .tm .now))) (a .n) (a .idx) (c .before .before .before .before .before .before .before .before .before .before .before .before .before .if1 .left) (listsOf (poolsOf (a .xy .now) (a .ends .now) (a .z .now) (a .m .now) (a .t .now) (a .tm .now)) (c .before .before .before .before .before .before .g .given .0 .0)) (good-record (a .table .now) (poolsOf (a .xy .now) (a .ends .now) (a .z .now) (a .m .now) (a .t .now) (a .tm .now)) (a .n) (c .before .before .before .before .before .before .before .before .before .lent-of .ensures) (c .before .before .before .before .before .before .before .before .record-at .ensures) (c .before .before .before .before .before .before .g .given .1)) ∙ ap (λ (w : Walk). walkS (a .flags) (a .levels - 1) (recordWith (a .table .now) (poolsOf (a .xy .now) (a .ends .now) (a .z .now) (a .m .now) (a .t .now) (a .tm .now))) (listsOf (poolsOf (a .xy .now) (a .ends .now) (a .z .now) (a .m .now) (a .t .now) (a .tm .now)) (c .before .before .before .before .before .before .g .given .0 .0)) w (a .idx)) (sym (c .before .before .before .before .walk-in .ensures))) (c .before .before .read-geometry-n .ensures))
-    (λ c. let a = c .before .before .before .before .before .before .before .before .before .before .before .before .before .before .before .before .args in ended events _ _ 10 refl (part-bad (a .flags) (a .role) (a .levels) (recordWith (a .table .now) (poolsOf (a .xy .now) (a .ends .now) (a .z .now) (a .m .now) (a .t .now) (a .tm .now))) (a .n) (a .idx) (c .before .before .before .before .before .before .before .if1 .left) (bad-record (a .table .now) (poolsOf (a .xy .now) (a .ends .now) (a .z .now) (a .m .now) (a .t .now) (a .tm .now)) (a .n) (c .before .before .before .lent-of .ensures) (c .before .before .record-at .ensures) (c .enum-told2 .given .1))))
+    (λ c. let a = c .before .before .before .before .before .before .before .before .before .before .before .before .before .before .before .before .before .before .before .before .before .before .args in rw (part-good (a .flags) (a .role) (a .levels) (recordWith (a .table .now) (poolsOf (a .xy .now) (a .ends .now) (a .z .now) (a .m .now) (a .t .now) (a .tm .now))) (a .n) (a .idx) (c .before .before .before .before .before .before .before .before .before .before .before .before .before .if1 .left) (listsOf (poolsOf (a .xy .now) (a .ends .now) (a .z .now) (a .m .now) (a .t .now) (a .tm .now)) (c .before .before .before .before .before .before .g .given .0 .0)) (good-record (a .table .now) (poolsOf (a .xy .now) (a .ends .now) (a .z .now) (a .m .now) (a .t .now) (a .tm .now)) (a .n) (c .before .before .before .before .before .before .before .before .before .new .ensures) (c .before .before .before .before .before .before .before .before .record-at .ensures) (c .before .before .before .before .before .before .g .given .1)) ∙ ap (λ (w : Walk). walkS (a .flags) (a .levels - 1) (recordWith (a .table .now) (poolsOf (a .xy .now) (a .ends .now) (a .z .now) (a .m .now) (a .t .now) (a .tm .now))) (listsOf (poolsOf (a .xy .now) (a .ends .now) (a .z .now) (a .m .now) (a .t .now) (a .tm .now)) (c .before .before .before .before .before .before .g .given .0 .0)) w (a .idx)) (sym (c .before .before .before .before .walk-in .ensures))) (c .before .before .read-geometry-n .ensures))
+    (λ c. let a = c .before .before .before .before .before .before .before .before .before .before .before .before .before .before .before .before .args in ended events _ _ 10 refl (part-bad (a .flags) (a .role) (a .levels) (recordWith (a .table .now) (poolsOf (a .xy .now) (a .ends .now) (a .z .now) (a .m .now) (a .t .now) (a .tm .now))) (a .n) (a .idx) (c .before .before .before .before .before .before .before .if1 .left) (bad-record (a .table .now) (poolsOf (a .xy .now) (a .ends .now) (a .z .now) (a .m .now) (a .t .now) (a .tm .now)) (a .n) (c .before .before .before .new .ensures) (c .before .before .record-at .ensures) (c .enum-told2 .given .1))))

@@ -1,5 +1,5 @@
 use mathlib.Core.Path.{refl}
-use Rattle.writer.specs.Calls.{started}
+use Rattle.writing.specs.Calls.{started}
 use Rattle.writer.proofs.start.Statement.{statement}
 use Rattle.writer.proofs.start.Tie as tie
 

@@ -5,7 +5,7 @@ use lib.ListN.{length, drop}
 use Rattle.laws.specs.Script.{run}
 use Rattle.store.specs.Log.{events}
 use Rattle.laws.specs.Framed.{went-on, broke-off, ended}
-use Rattle.lines.specs.Seen.{coordsIn}
+use Rattle.coords.specs.Seen.{coordsIn}
 use Rattle.lines.specs.Lines.{linesS}
 use Rattle.lines.specs.LineLaws.{lines-next, lines-end}
 use Rattle.lines.proofs.lines.read_lines.Statement.{statement}

@@ -2,7 +2,7 @@ use native.Mathlib.Omega.{arith}
 use mathlib.Core.Path.{refl}
 use Rattle.store.specs.Log.{events}
 use Rattle.laws.specs.Framed.{ended}
-use Rattle.lines.specs.Seen.{coordsIn}
+use Rattle.coords.specs.Seen.{coordsIn}
 use Rattle.lines.specs.LineLaws.{good-end, stretch-bad, stretch-good}
 use borrow.Author.Needs.{needs}
 use Rattle.lines.proofs.lines.read_multilinestring_part.Statement.{statement}

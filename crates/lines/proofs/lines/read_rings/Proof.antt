@@ -1,4 +1,4 @@
-use Rattle.lines.specs.Seen.{coordsIn}
+use Rattle.coords.specs.Seen.{coordsIn}
 use Rattle.lines.specs.LineLaws.{rings-single, rings-many}
 use borrow.Author.Needs.{needs}
 use Rattle.lines.proofs.lines.read_rings.Statement.{statement}

@@ -5,10 +5,10 @@ use Rattle.reader_cases.proofs.described.same_bytes.Statement.{statemen
 use Rattle.reader_cases.proofs.described.same_bytes.Tie as tie
 
 abbrev Inv-loop : tie.InvT-loop
-Inv-loop bytes description i₀ i = i ≤ length bytes
+Inv-loop bytes case k described i₀ i = i ≤ length bytes
 
 abbrev μ-loop : tie.MeasureT-loop
-μ-loop bytes description i₀ i = length bytes - i
+μ-loop bytes case k described i₀ i = length bytes - i
 
 pub same-bytes-spec : {M : Type 1} → statement M
 same-bytes-spec =
@@ -16,6 +16,7 @@ same-bytes-spec =
     (tie.spec
     Inv-loop
     μ-loop
+    (λ c κs. search needs)
     (λ c. search needs)
     (λ c. search needs)
     (λ c κs. search needs)

@@ -5,7 +5,7 @@ use lib.ListN.{take, drop}
 use denote.Ref.{now}
 use borrow.Author.Needs.{needs}
 use Rattle.kinds.specs.declared.geometry.Lone.{Lone}
-use Rattle.layout.specs.Lone.{loneIn}
+use Rattle.geometry_layout.specs.Lone.{loneIn}
 use Rattle.laws.specs.Branch.{is-true}
 use Rattle.store.specs.Lone.{LoneAt, inXyPool, lone-at}
 use Rattle.store.specs.RecordLaws.{record-room}
@@ -26,9 +26,9 @@ lone-list-at-spec =
     (λ c κs. search needs)
     (λ c κs. search needs)
     (λ c. let a = c .before .before .before .before .before .before .args in
-    let T = now (a .table) in
+    let table = now (a .table) in
     let wide : 64 * a .n + 64 - 64 * a .n ≡ 64 = omega arith in
-    let block = ap (λ (w : ℕ). loneIn (take w (drop (64 * a .n) T))) wide in
-    subst (LoneAt T (a .lent) (a .n))
+    let block = ap (λ (w : ℕ). loneIn (take w (drop (64 * a .n) table))) wide in
+    subst (LoneAt table (a .lent) (a .n))
     (sym (c .in-xy-pool .ensures ∙ ap (λ (read : Lone). inXyPool read (a .lent)) (c .before .lone-list .ensures ∙ block)))
-    (lone-at T (a .lent) (a .n) (is-true (c .before .before .before .before .has-record .ensures) (c .before .before .before .if1 .left)))))
+    (lone-at table (a .lent) (a .n) (is-true (c .before .before .before .before .has-record .ensures) (c .before .before .before .if1 .left)))))

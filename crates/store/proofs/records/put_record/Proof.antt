@@ -2,8 +2,8 @@ use Prim.Native.Nat.{_*_, _+_}
 use native.Mathlib.Omega.{arith}
 use denote.Ref.{now}
 use borrow.Author.Needs.{needs}
-use Rattle.layout.specs.GeometryLaws.{geometry-length}
-use Rattle.layout.specs.Geometry.{geometryBytes}
+use Rattle.geometry_layout.specs.GeometryLaws.{geometry-length}
+use Rattle.geometry_layout.specs.Geometry.{geometryBytes}
 use Rattle.laws.specs.Runs.{lent-part}
 use Rattle.store.specs.Records.{putRecord}
 use Rattle.store.proofs.records.put_record.Statement.{statement}

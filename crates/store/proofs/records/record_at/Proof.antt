@@ -5,7 +5,7 @@ use lib.ListN.{length, take, drop}
 use denote.Ref.{now}
 use borrow.Author.Needs.{needs}
 use Rattle.kinds.specs.declared.geometry.Judged.{Judged}
-use Rattle.layout.specs.Geometry.{readGeometry}
+use Rattle.geometry_layout.specs.Geometry.{readGeometry}
 use Rattle.laws.specs.Branch.{is-true, is-false}
 use Rattle.store.specs.Records.{recordIn, judged}
 use Rattle.store.specs.RecordLaws.{record-room, record-is, record-none}
@@ -27,9 +27,9 @@ record-at-spec =
     (λ c κs. search needs)
     (λ c κs. search needs)
     (λ c. unfold recordIn in let a = c .before .before .before .before .before .before .args in
-    let T = now (a .table) in
+    let table = now (a .table) in
     let wide : 64 * a .n + 64 - 64 * a .n ≡ 64 = omega arith in
-    let block = ap (λ (w : ℕ). readGeometry (take w (drop (64 * a .n) T))) wide in
+    let block = ap (λ (w : ℕ). readGeometry (take w (drop (64 * a .n) table))) wide in
     c .judge .ensures
-    ∙ ap (λ (read : Judged). judged read (a .pools) (a .n) (length T / 64)) (c .before .read-geometry .ensures ∙ block)
-    ∙ sym (record-is T (a .pools) (a .n) (is-true (c .before .before .before .before .has-record .ensures) (c .before .before .before .if1 .left)))))
+    ∙ ap (λ (read : Judged). judged read (a .pools) (a .n) (length table / 64)) (c .before .read-geometry .ensures ∙ block)
+    ∙ sym (record-is table (a .pools) (a .n) (is-true (c .before .before .before .before .has-record .ensures) (c .before .before .before .if1 .left)))))

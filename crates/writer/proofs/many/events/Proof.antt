@@ -1,6 +1,7 @@
-use mathlib.Core.Path.{_≡_, sym, ap, _∙_}
+use mathlib.Core.Path.{_≡_, refl, ap, subst, _∙_}
+use mathlib.Core.Bool.{Bool, true}
 use mathlib.Core.List.{List}
-use Prim.Native.Nat.{ℕ, _-_, _*_, _/_, _<_}
+use Prim.Native.Nat.{ℕ, _+_, _-_, _/_, _≤_, _<_}
 use native.Mathlib.Omega.{arith}
 use lib.ListN.{length}
 use denote.Ref.{now}
@@ -8,61 +9,110 @@ use borrow.Author.Needs.{needs}
 use Rattle.kinds.specs.declared.geometry.Lent.{Lent}
 use Rattle.store.specs.Lists.{lentOf}
 use Rattle.store.specs.Records.{recordsLent}
-use Rattle.writer.specs.Calls.{eventCall}
-use Rattle.writer.specs.Events.{recordOf, recordsIn}
-use Rattle.writer.specs.Going.{Going, begun, at-end, at-refused, at-taken, then-ready, at-plain, record-lent}
-use Rattle.writer.specs.Ready.{Ready}
-use Rattle.writer.specs.Run.{ready-room}
-use Rattle.writer.specs.State.{Mem, memOf, outcome}
+use Rattle.runs.specs.declared.run.Stop.{Stop}
+use Rattle.runs.specs.declared.run.Stop.the-variants.{Other}
+use Rattle.writing.specs.declared.state.State.{State}
+use Rattle.writing.specs.Apart.{ready-of}
+use Rattle.writing.specs.Calls.{eventCall}
+use Rattle.runs.specs.Events.{recordOf, took, progress}
+use Rattle.writer.specs.Going.{Going, begun, at-run, at-end, at-blocked, at-malformed, at-refused, at-taken}
+use Rattle.writer.specs.OtherCall.{other-call}
+use Rattle.runs.specs.Run.{Values, valuesOf, memWith, Stopped}
+use Rattle.writing.specs.State.{Mem, memOf, withPending, outcome}
 use Rattle.writer.proofs.many.events.Statement.{statement}
 use Rattle.writer.proofs.many.events.Tie as tie
 
 abbrev Inv-loop : tie.InvT-loop
-Inv-loop bytes table₀ xy₀ ends₀ z₀ m₀ t₀ tm₀ lent pools records state₀ taken₀ table xy ends z m t tm state taken =
-    Going bytes state₀ (memOf table₀ xy₀ ends₀ z₀ m₀ t₀ tm₀) taken state (memOf table xy ends z m t tm)
+Inv-loop bytes table₀ xy₀ ends₀ z₀ m₀ t₀ tm₀ records ready state₀ taken₀ table xy ends z m t tm state taken =
+    Going bytes state₀ (memOf table₀ xy₀ ends₀ z₀ m₀ t₀ tm₀) ready taken state (memOf table xy ends z m t tm)
 
 abbrev μ-loop : tie.MeasureT-loop
-μ-loop bytes table₀ xy₀ ends₀ z₀ m₀ t₀ tm₀ lent pools records state₀ taken₀ table xy ends z m t tm state taken =
-    records - taken
+μ-loop bytes table₀ xy₀ ends₀ z₀ m₀ t₀ tm₀ records ready state₀ taken₀ table xy ends z m t tm state taken =
+    length bytes / 64 - taken
 
--- ---- the places: a turn's start, and the call's
-abbrev Turn : Type 0
-Turn = tie.At-loop Inv-loop μ-loop
+short : (c : tie.After-shared-slice-known Inv-loop μ-loop) → length (now (c .before .args .bytes)) < 18446744073709551616
+short c = omega arith
 
-abbrev Taken : Type 0
-Taken = tie.After-take-record Inv-loop μ-loop
+-- ---- a run: the state and the memory after it, and why it stopped
+abbrev Run-taken : Type 0
+Run-taken = tie.After-take-plain Inv-loop μ-loop
 
-abbrev turn : Taken → Turn
-turn c = c .before .before .before .before .before .before .before .before .before .before .before
+abbrev bytes : Run-taken → List ℕ
+bytes c = now (c .before .before .before .before .before .before .before .before .before .before .before .before .before .before .before .before .before .before .before .args .bytes)
 
-abbrev bytes : Turn → List ℕ
-bytes c = now (c .before .before .before .before .before .before .before .before .before .before .before .before .args .bytes)
+abbrev first : Run-taken → Mem
+first c = let a = c .before .before .before .before .before .before .before .before .before .before .before .before .before .before .before .before .before .before .before .args in memOf (now (a .table)) (now (a .xy)) (now (a .ends)) (now (a .z)) (now (a .m)) (now (a .t)) (now (a .tm))
 
--- the memory before a record, and after it
-abbrev lent : Turn → Mem
-lent c = memOf (c .loop .table) (c .loop .xy) (c .loop .ends) (c .loop .z) (c .loop .m) (c .loop .t) (c .loop .tm)
+abbrev ready : Run-taken → Bool
+ready c = c .before .before .before .before .before .before .before .is-ready .result
 
-abbrev left : Taken → Mem
-left c = let l = c .take-record .last in memOf (l .1 .1 .1 .1 .0) (l .1 .1 .1 .1 .1 .0) (l .1 .1 .1 .1 .1 .1 .0) (l .1 .1 .1 .1 .1 .1 .1 .0) (l .1 .1 .1 .1 .1 .1 .1 .1 .0) (l .1 .1 .1 .1 .1 .1 .1 .1 .1 .0) (l .1 .1 .1 .1 .1 .1 .1 .1 .1 .1 .0)
+abbrev state : Run-taken → State
+state c = withPending (c .before .before .before .before .before .before .loop .state) (c .take-plain .result .pending)
 
--- ---- what a record comes to
-more-left : (c : tie.In-loop Inv-loop μ-loop) → c .before .loop .taken < recordsIn (bytes (c .before))
-more-left c = omega (arith, c .loop-test .taken, c .before .before .records-in .ensures)
+abbrev values : Run-taken → Values
+values c = let l = c .take-plain .last in valuesOf (l .1 .1 .1 .1 .0) (l .1 .1 .1 .1 .1 .0) (l .1 .1 .1 .1 .1 .1 .0) (l .1 .1 .1 .1 .1 .1 .1 .0) (l .1 .1 .1 .1 .1 .1 .1 .1 .0)
 
-is : (c : Taken) → outcome (c .take-record .result) (left c) ≡ eventCall (turn c .loop .state) (lent (turn c)) (recordOf (bytes (turn c)) (turn c .loop .taken))
-is c =
-    let test = c .before .before .before .before .before .before .before .before .before .before in
-    let at : 64 * turn c .loop .taken < length (bytes (turn c)) = omega (arith, more-left test) in
-    c .take-record .ensures ∙ ap (eventCall (turn c .loop .state) (lent (turn c))) (record-lent (bytes (turn c)) (turn c .loop .taken) (c .before .before .before .before .before .before .before .before .before .record-length .result) at (c .before .before .before .before .before .before .before .before .before .record-length .ensures .0))
+abbrev memory : Run-taken → Mem
+memory c = memWith (c .before .before .before .before .before .before .loop .table) (c .before .before .before .before .before .before .loop .ends) (values c)
 
-same-table : (c : Taken) → length (left c .table) ≡ length (lent (turn c) .table)
-same-table c = c .take-record .kept .1 .1 .1 .1 .0
+ran : (c : Run-taken) → Going (bytes c) (c .before .before .before .before .before .before .before .before .before .before .before .before .before .before .before .before .before .before .before .args .s) (first c) (ready c) (c .take-plain .result .taken) (state c) (memory c)
+ran c =
+    let at = c .before .before .before .before .before .before .loop in
+    at-run {s = at .state} {table = at .table} {ends = at .ends} {v = valuesOf (at .xy) (at .z) (at .m) (at .t) (at .tm)} (at .inv) (c .take-plain .ensures .run)
 
-same-pools : (c : Taken) → lentOf (left c .pools) ≡ lentOf (lent (turn c) .pools)
-same-pools c = let k = c .take-record .kept in λ i. record { xy = k .1 .1 .1 .1 .1 .0 i; ends = k .1 .1 .1 .1 .1 .1 .0 i; z = k .1 .1 .1 .1 .1 .1 .1 .0 i; m = k .1 .1 .1 .1 .1 .1 .1 .1 .0 i; t = k .1 .1 .1 .1 .1 .1 .1 .1 .1 .0 i; tm = k .1 .1 .1 .1 .1 .1 .1 .1 .1 .1 .0 i }
+stopped : (c : Run-taken) (stop : Stop) → c .take-plain .result .stop ≡ stop → Stopped (bytes c) (ready c) (c .take-plain .result .taken) (c .take-plain .result .pending) (values c) stop
+stopped c stop is = subst (λ (x : Stop). Stopped (bytes c) (ready c) (c .take-plain .result .taken) (c .take-plain .result .pending) (values c) x) is (c .take-plain .ensures .stop)
 
-ready : (c : Taken) → c .take-record .result .number ≡ 0 → Ready (c .take-record .result .state) (recordsLent (left c .table)) (lentOf (left c .pools))
-ready c ok = then-ready (turn c .loop .inv) (more-left (c .before .before .before .before .before .before .before .before .before .before)) (is c) ok (same-table c) (same-pools c)
+-- ---- no list changes its length
+module _ {bytes : List ℕ} {s₀ : State} {k₀ : Mem} {ready : Bool} {taken : ℕ} {s : State} {k : Mem} (so-far : Going bytes s₀ k₀ ready taken s k) where
+  length-table : length (k .table) ≡ length (k₀ .table)
+  length-table = so-far .table
+
+  length-xy : length (k .pools .xy) ≡ length (k₀ .pools .xy)
+  length-xy = ap (λ (l : Lent). l .xy) (so-far .pools)
+
+  length-ends : length (k .pools .ends) ≡ length (k₀ .pools .ends)
+  length-ends = ap (λ (l : Lent). l .ends) (so-far .pools)
+
+  length-z : length (k .pools .z) ≡ length (k₀ .pools .z)
+  length-z = ap (λ (l : Lent). l .z) (so-far .pools)
+
+  length-m : length (k .pools .m) ≡ length (k₀ .pools .m)
+  length-m = ap (λ (l : Lent). l .m) (so-far .pools)
+
+  length-t : length (k .pools .t) ≡ length (k₀ .pools .t)
+  length-t = ap (λ (l : Lent). l .t) (so-far .pools)
+
+  length-tm : length (k .pools .tm) ≡ length (k₀ .pools .tm)
+  length-tm = ap (λ (l : Lent). l .tm) (so-far .pools)
+
+-- ---- an event that is not plain
+abbrev Other-taken : Type 0
+Other-taken = tie.After-take-other Inv-loop μ-loop
+
+abbrev after-other : Other-taken → Mem
+after-other c =
+    let l = c .take-other .last in
+    let v = values (c .before .before .before .before .before .before .before .before .before .before .before .before .before .before .before .before .before) in
+    memOf (l .1 .1 .1 .0) (v .xy) (l .1 .1 .1 .1 .0) (v .z) (v .m) (v .t) (v .tm)
+
+abbrev told : (c : Other-taken) → Stopped (bytes (c .before .before .before .before .before .before .before .before .before .before .before .before .before .before .before .before .before)) (ready (c .before .before .before .before .before .before .before .before .before .before .before .before .before .before .before .before .before)) (c .before .before .before .before .before .before .before .before .before .before .before .before .before .before .before .before .before .take-plain .result .taken) (c .before .before .before .before .before .before .before .before .before .before .before .before .before .before .before .before .before .take-plain .result .pending) (values (c .before .before .before .before .before .before .before .before .before .before .before .before .before .before .before .before .before)) (Other (c .before .before .before .before .stop .given .0 .0))
+told c = stopped (c .before .before .before .before .before .before .before .before .before .before .before .before .before .before .before .before .before) _ (c .before .before .before .before .stop .given .1)
+
+other-is : (c : Other-taken) → (let run = c .before .before .before .before .before .before .before .before .before .before .before .before .before .before .before .before .before in outcome (c .take-other .result) (after-other c) ≡ eventCall (state run) (memory run) (recordOf (bytes run) (run .take-plain .result .taken)))
+other-is c =
+    let run = c .before .before .before .before .before .before .before .before .before .before .before .before .before .before .before .before .before in
+    let at = c .before .before .before .before .before .before .before .before .before .before .before .before .before .before .before .before .before .before .before .before .before .before .before .loop in
+    let v = values run in
+    let e = c .before .before .before .before .stop .given .0 .0 in
+    let is = c .take-other .ensures in
+    other-call (state run) (ready run) e (at .table) (v .xy) (at .ends) (v .z) (v .m) (v .t) (v .tm) (ran run .tells) _ (told c .1) (told c .2) (is .0) (is .1 .0) (is .1 .1)
+
+kept-table : (c : Other-taken) → length (after-other c .table) ≡ length (memory (c .before .before .before .before .before .before .before .before .before .before .before .before .before .before .before .before .before) .table)
+kept-table c = c .take-other .kept .1 .1 .1 .0
+
+kept-ends : (c : Other-taken) → length (after-other c .pools .ends) ≡ length (memory (c .before .before .before .before .before .before .before .before .before .before .before .before .before .before .before .before .before) .pools .ends)
+kept-ends c = c .take-other .kept .1 .1 .1 .1 .0
 
 pub events-spec : {M : Type 1} → statement M
 events-spec =
@@ -72,40 +122,62 @@ events-spec =
     μ-loop
     (λ c κs. search needs)
     (λ c κs. search needs)
-    (λ c. begun _ _ _)
-    (λ c. omega (arith, more-left c))
-    (λ c. omega (arith, more-left c))
     (λ c κs. search needs)
-    (λ c. omega (arith, more-left (c .before), c .record-length .ensures .1))
+    (λ c. begun _ _ _ (c .before .records-lent .ensures) (c .before .before .before .new .ensures) (c .is-ready .ensures))
+    (λ c κs. c .before .before .before .before .before .loop .inv .within)
     (λ c. search needs)
-    (λ c. search needs)
-    (λ c. omega (arith, more-left (c .before), c .record-length .ensures .1))
-    (λ c κs.
-    let at = c .before .before .before .before .before .before .before .before .before .before in
-    (at .before .before .records-lent .ensures ∙ ap (λ (n : ℕ). n / 64) (sym (at .loop .inv .table)), sym (at .loop .inv .pools)))
-    (λ c. same-table (c .before .before .before .before .before .before .before .before .before .before .before .before .before .before .before .before) ∙ turn (c .before .before .before .before .before .before .before .before .before .before .before .before .before .before .before .before) .loop .inv .table)
-    (λ c. ap (λ (l : Lent). l .xy) (same-pools (c .before .before .before .before .before .before .before .before .before .before .before .before .before .before .before .before) ∙ turn (c .before .before .before .before .before .before .before .before .before .before .before .before .before .before .before .before) .loop .inv .pools))
-    (λ c. ap (λ (l : Lent). l .ends) (same-pools (c .before .before .before .before .before .before .before .before .before .before .before .before .before .before .before .before) ∙ turn (c .before .before .before .before .before .before .before .before .before .before .before .before .before .before .before .before) .loop .inv .pools))
-    (λ c. ap (λ (l : Lent). l .z) (same-pools (c .before .before .before .before .before .before .before .before .before .before .before .before .before .before .before .before) ∙ turn (c .before .before .before .before .before .before .before .before .before .before .before .before .before .before .before .before) .loop .inv .pools))
-    (λ c. ap (λ (l : Lent). l .m) (same-pools (c .before .before .before .before .before .before .before .before .before .before .before .before .before .before .before .before) ∙ turn (c .before .before .before .before .before .before .before .before .before .before .before .before .before .before .before .before) .loop .inv .pools))
-    (λ c. ap (λ (l : Lent). l .t) (same-pools (c .before .before .before .before .before .before .before .before .before .before .before .before .before .before .before .before) ∙ turn (c .before .before .before .before .before .before .before .before .before .before .before .before .before .before .before .before) .loop .inv .pools))
-    (λ c. ap (λ (l : Lent). l .tm) (same-pools (c .before .before .before .before .before .before .before .before .before .before .before .before .before .before .before .before) ∙ turn (c .before .before .before .before .before .before .before .before .before .before .before .before .before .before .before .before) .loop .inv .pools))
-    (λ c. let taken = c .before .before .before .before .before .before .before .before .before .before .before .before .before .before .before .before in at-refused (turn taken .loop .inv) (more-left (taken .before .before .before .before .before .before .before .before .before .before)) (is taken) (c .if1 .taken))
-    (λ c. let test = c .before .before .before .before .before .before .before .before .before .before .before .before .before .before .before .before .before .before .before .before .before .before .before .before .before .before .before in omega (arith, test .loop-test .taken, test .before .before .records-in .ok))
-    (λ c κs.
-    let taken = c .before .before .before .before .before .before .before .before .before .before .before .before .before .before .before .before .before .before .before .before .before .before in
-    (omega (arith, more-left (taken .before .before .before .before .before .before .before .before .before .before)), ready-room (taken .take-record .result .state) _ (left taken .pools .ends) _ _ _ _ (ready taken (c .before .before .before .before .before .before .if1 .left))))
-    (λ c. omega (arith, c .before .before .before .before .before .before .before .before .before .before .before .before .before .before .before .before .before .before .before .before .before .before .before .before .before .before .before .before .before .before .before .before .before .before .before .before .before .before .before .before .before .before .before .before .loop-test .taken, c .before .before .before .before .before .before .before .before .before .before .before .take-plain .ensures .begun))
+    (λ c κs. search needs)
+    (λ c. length-table (ran (c .before .before .before .before .before .before .before .before .before .before .before .before .before .before)))
+    (λ c. length-xy (ran (c .before .before .before .before .before .before .before .before .before .before .before .before .before .before)))
+    (λ c. length-ends (ran (c .before .before .before .before .before .before .before .before .before .before .before .before .before .before)))
+    (λ c. length-z (ran (c .before .before .before .before .before .before .before .before .before .before .before .before .before .before)))
+    (λ c. length-m (ran (c .before .before .before .before .before .before .before .before .before .before .before .before .before .before)))
+    (λ c. length-t (ran (c .before .before .before .before .before .before .before .before .before .before .before .before .before .before)))
+    (λ c. length-tm (ran (c .before .before .before .before .before .before .before .before .before .before .before .before .before .before)))
     (λ c.
-    let taken = c .before .before .before .before .before .before .before .before .before .before .before .before .before .before .before .before .before .before .before .before .before .before .before .before .before .before .before .before .before .before .before .before .before .before in
-    let ok = c .before .before .before .before .before .before .before .before .before .before .before .before .before .before .before .before .before .before .if1 .left in
-    let so-far = at-taken (turn taken .loop .inv) (more-left (taken .before .before .before .before .before .before .before .before .before .before)) (is taken) ok (same-table taken) (same-pools taken) in
-    at-plain so-far (ready taken ok) (c .before .before .before .before .before .before .before .before .before .before .before .take-plain .ensures))
-    (λ c. c .before .loop .inv .table)
-    (λ c. ap (λ (l : Lent). l .xy) (c .before .loop .inv .pools))
-    (λ c. ap (λ (l : Lent). l .ends) (c .before .loop .inv .pools))
-    (λ c. ap (λ (l : Lent). l .z) (c .before .loop .inv .pools))
-    (λ c. ap (λ (l : Lent). l .m) (c .before .loop .inv .pools))
-    (λ c. ap (λ (l : Lent). l .t) (c .before .loop .inv .pools))
-    (λ c. ap (λ (l : Lent). l .tm) (c .before .loop .inv .pools))
-    (λ c. at-end (c .before .loop .inv) (omega (arith, c .loop-test .left, c .before .before .records-in .ensures))))
+    let run = c .before .before .before .before .before .before .before .before .before .before .before .before .before .before in
+    ap (λ (n : ℕ). progress (took n (run .take-plain .result .taken) (state run)) (memory run)) (c .rest-number .ensures) ∙ at-end (ran run) (stopped run _ (c .before .enum-told .given .1)))
+    (λ c. search needs)
+    (λ c κs. search needs)
+    (λ c. length-table (ran (c .before .before .before .before .before .before .before .before .before .before .before .before .before .before)))
+    (λ c. length-xy (ran (c .before .before .before .before .before .before .before .before .before .before .before .before .before .before)))
+    (λ c. length-ends (ran (c .before .before .before .before .before .before .before .before .before .before .before .before .before .before)))
+    (λ c. length-z (ran (c .before .before .before .before .before .before .before .before .before .before .before .before .before .before)))
+    (λ c. length-m (ran (c .before .before .before .before .before .before .before .before .before .before .before .before .before .before)))
+    (λ c. length-t (ran (c .before .before .before .before .before .before .before .before .before .before .before .before .before .before)))
+    (λ c. length-tm (ran (c .before .before .before .before .before .before .before .before .before .before .before .before .before .before)))
+    (λ c.
+    let run = c .before .before .before .before .before .before .before .before .before .before .before .before .before .before in
+    let at = c .before .before .before .before .before .before .before .before .before .before .before .before .before .before .before .before .before .before .before .before .loop in
+    ap (λ (n : ℕ). progress (took n (run .take-plain .result .taken) (state run)) (memory run)) (c .blocked-number .ensures)
+    ∙ at-blocked {s = state run} {table = at .table} {ends = at .ends} {v = values run} (ran run) (stopped run _ (c .before .enum-told2 .given .1)))
+    (λ c. search needs)
+    (λ c. length-table (ran (c .before .before .before .before .before .before .before .before .before .before .before .before .before)))
+    (λ c. length-xy (ran (c .before .before .before .before .before .before .before .before .before .before .before .before .before)))
+    (λ c. length-ends (ran (c .before .before .before .before .before .before .before .before .before .before .before .before .before)))
+    (λ c. length-z (ran (c .before .before .before .before .before .before .before .before .before .before .before .before .before)))
+    (λ c. length-m (ran (c .before .before .before .before .before .before .before .before .before .before .before .before .before)))
+    (λ c. length-t (ran (c .before .before .before .before .before .before .before .before .before .before .before .before .before)))
+    (λ c. length-tm (ran (c .before .before .before .before .before .before .before .before .before .before .before .before .before)))
+    (λ c. let run = c .before .before .before .before .before .before .before .before .before .before .before .before .before in let stop = stopped run _ (c .enum-told3 .given .1) in at-malformed (ran run) (omega (arith, stop .0)) (stop .1))
+    (λ c. search needs)
+    (λ c κs.
+    let run = c .before .before .before .before .before .before .before .before .before .before .before .before .before .before .before .before in
+    let at = c .before .before .before .before .before .before .before .before .before .before .before .before .before .before .before .before .before .before .before .before .before .before .loop in
+    let stop = stopped run (Other (c .before .before .before .stop .given .0 .0)) (c .before .before .before .stop .given .1) in
+    (stop .2, λ ok. ready-of (state run) (recordsLent (memory run .table)) (lentOf (memory run .pools)) (ran run .tells ∙ ok) .room .fits))
+    (λ c. kept-table (c .before .before .before .before .before .before) ∙ length-table (ran (c .before .before .before .before .before .before .before .before .before .before .before .before .before .before .before .before .before .before .before .before .before .before .before)))
+    (λ c. length-xy (ran (c .before .before .before .before .before .before .before .before .before .before .before .before .before .before .before .before .before .before .before .before .before .before .before)))
+    (λ c. kept-ends (c .before .before .before .before .before .before) ∙ length-ends (ran (c .before .before .before .before .before .before .before .before .before .before .before .before .before .before .before .before .before .before .before .before .before .before .before)))
+    (λ c. length-z (ran (c .before .before .before .before .before .before .before .before .before .before .before .before .before .before .before .before .before .before .before .before .before .before .before)))
+    (λ c. length-m (ran (c .before .before .before .before .before .before .before .before .before .before .before .before .before .before .before .before .before .before .before .before .before .before .before)))
+    (λ c. length-t (ran (c .before .before .before .before .before .before .before .before .before .before .before .before .before .before .before .before .before .before .before .before .before .before .before)))
+    (λ c. length-tm (ran (c .before .before .before .before .before .before .before .before .before .before .before .before .before .before .before .before .before .before .before .before .before .before .before)))
+    (λ c. let other = c .before .before .before .before .before .before in at-refused (ran (c .before .before .before .before .before .before .before .before .before .before .before .before .before .before .before .before .before .before .before .before .before .before .before)) (omega (arith, told other .0)) (other-is other) (c .if1 .taken))
+    (λ c. omega (arith, told (c .before .before .before .before .before .before .before) .0, short (c .before .before .before .before .before .before .before .before .before .before .before .before .before .before .before .before .before .before .before .before .before .before .before .before .before .before .before .before .before .before .before .before .before .before .before .before .before .before .before .before .before .before)))
+    (λ c. omega (arith, told (c .before .before .before .before .before .before .before) .0, c .before .before .before .before .before .before .before .before .before .before .before .before .before .before .before .before .before .before .before .before .before .before .before .before .take-plain .ensures .run .begun))
+    (λ c.
+    let other = c .before .before .before .before .before .before .before in
+    let run = c .before .before .before .before .before .before .before .before .before .before .before .before .before .before .before .before .before .before .before .before .before .before .before .before in
+    at-taken (ran run) (omega (arith, told other .0)) (other-is other) (c .before .if1 .left) (omega (arith, told other .0)) (kept-table other)
+    (λ i. record { xy = length (values run .xy); ends = kept-ends other i; z = length (values run .z); m = length (values run .m); t = length (values run .t); tm = length (values run .tm) })))

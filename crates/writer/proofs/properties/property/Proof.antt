@@ -1,6 +1,6 @@
 use mathlib.Core.Path.{ap}
 use borrow.Author.Needs.{needs}
-use Rattle.props.specs.declared.write.PropertyPut.{PropertyPut}
+use Rattle.property_writer.specs.declared.PropertyPut.{PropertyPut}
 use Rattle.writer.specs.Property.{counted, propertyCall}
 use Rattle.writer.proofs.properties.property.Statement.{statement}
 use Rattle.writer.proofs.properties.property.Tie as tie

@@ -1,0 +1,17 @@
+use Rattle.as_words.specs.Words.{stateOf}
+use borrow.Author.Needs.{needs}
+use Rattle.as_words.proofs.state.state_of.Statement.{statement}
+use Rattle.as_words.proofs.state.state_of.Tie as tie
+
+pub state-of-spec : {M : Type 1} → statement M
+state-of-spec =
+    tie.close
+    (tie.spec
+    (λ c. search needs)
+    (λ c κs. search needs)
+    (λ c κs. search needs)
+    (λ c κs. search needs)
+    (λ c κs. search needs)
+    (λ c. search needs)
+    (λ c. search needs)
+    (λ c. unfold stateOf in cc))

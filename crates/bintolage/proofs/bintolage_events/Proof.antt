@@ -1,0 +1,31 @@
+use denote.Ref.{now}
+use Rattle.writing.specs.declared.state.State.{State}
+use Rattle.writing.specs.State.{Mem, memOf}
+use Rattle.runs.specs.Events.{eventsCall}
+use Rattle.bintolage.specs.CallLaws.{taken-call}
+use borrow.Author.Needs.{needs}
+use Rattle.bintolage.proofs.bintolage_events.Statement.{statement}
+use Rattle.bintolage.proofs.bintolage_events.Tie as tie
+
+-- the lent memory
+abbrev lent : tie.Start → Mem
+lent c = memOf (now (c .args .table)) (now (c .args .xy)) (now (c .args .ends)) (now (c .args .z)) (now (c .args .m)) (now (c .args .t)) (now (c .args .tm))
+
+pub bintolage-events-spec : {M : Type 1} → statement M
+bintolage-events-spec =
+    tie.close
+    (tie.spec
+    (λ c κs. search needs)
+    (λ c κs. search needs)
+    (λ c κs. search needs)
+    (λ c. search needs)
+    (λ c. search needs)
+    (λ c. search needs)
+    (λ c. search needs)
+    (λ c. search needs)
+    (λ c. search needs)
+    (λ c. search needs)
+    (λ c. let start = c .before .before .before .before .before .before .before .before .before .before .before .before .before .before .before .before .before .before .before .before .before .before .before .before .before .before .before .before .before .before .before .before .before .before in
+    let events = c .before .before .before .before .before .before .before .before .before .before .before .before .before .before .before .before .events in
+    let known = c .before .before .before .before .before .before .before .before .before .before .before .before .before .before .before .before .before .before .before .before .before .before .before .before in
+    taken-call (λ (s : State). eventsCall s (lent start) (now (start .args .records))) (now (start .args .state)) _ (known .state-of .ensures) (events .ensures) (c .keep-all .ensures .0) (c .keep-all .ensures .1)))

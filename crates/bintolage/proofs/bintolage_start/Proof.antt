@@ -1,0 +1,6 @@
+use borrow.Author.Needs.{needs}
+use Rattle.bintolage.proofs.bintolage_start.Statement.{statement}
+use Rattle.bintolage.proofs.bintolage_start.Tie as tie
+
+pub bintolage-start-spec : {M : Type 1} → statement M
+bintolage-start-spec = tie.close (tie.spec (λ c κs. search needs) (λ c κs. search needs) (λ c. cc))

@@ -1,0 +1,236 @@
+// The library that a machine builder links: every call, on plain numbers and lent memory.
+use as_words::edges::edges_of;
+use as_words::state::StateWords;
+use as_words::state::keep;
+use as_words::state::keep_all;
+use as_words::state::state_of;
+use as_words::state::words_of;
+use kinds::flags::Flags;
+ghost use mathlib.Core.Path.{_≡_};
+ghost use Rattle.laws.specs.Cut.{Said};
+ghost use Rattle.store.specs.Lists.{poolsOf, lentOf, recordWith};
+ghost use Rattle.store.specs.Log.{events};
+ghost use Rattle.store.specs.Records.{recordAt};
+ghost use Rattle.property_reader.specs.Reading.{reading, stopped};
+ghost use Rattle.store.specs.Values.{values};
+ghost use Rattle.property_writer.specs.Writing.{bytesAfter};
+ghost use Rattle.reader.specs.Reading.{readS};
+ghost use Rattle.record_box.specs.Boxed.{boxedOf};
+ghost use Rattle.writing.specs.State.{memOf};
+ghost use Rattle.writing.specs.Calls.{started, eventCall, finishCall, nextCall};
+ghost use Rattle.runs.specs.Events.{eventsCall};
+ghost use Rattle.writer.specs.Property.{propertyCall};
+ghost use Rattle.kinds.specs.Flags.{flagsOf};
+ghost use Rattle.as_words.specs.Edges.{edgesOf};
+ghost use Rattle.as_words.specs.Words.{stateOf, wordsOf, wordsAfter};
+ghost use Rattle.bintolage.specs.Calls.{yes, one, kept, keptOf, taken, takenOf};
+
+// A writer's first state. 0 is no, all else yes.
+#[no_mangle]
+pub extern "C" fn bintolage_start(declared: u8, detect: u8, promote: u8, state: &mut StateWords)
+    ensures { λ _. ⌜ now (state .exit) ≡ wordsOf (started declared (yes detect) (yes promote)) ⌝ }
+{
+    let first = words_of(writer::start(declared, detect != 0, promote != 0));
+    *state = first;
+}
+
+// Takes an event's record. Refused: 11, 15, 5, 12.
+#[no_mangle]
+pub extern "C" fn bintolage_event(
+    state: &mut StateWords,
+    event: &[u8],
+    table: &mut [u8],
+    xy: &mut [u64],
+    ends: &mut [u32],
+    z: &mut [u64],
+    m: &mut [u64],
+    t: &mut [u64],
+    tm: &mut [u64],
+) -> u8
+    ensures { λ r.
+        let before = memOf (now (table .entry)) (now (xy .entry)) (now (ends .entry)) (now (z .entry)) (now (m .entry)) (now (t .entry)) (now (tm .entry)) in
+        let after = memOf (now (table .exit)) (now (xy .exit)) (now (ends .exit)) (now (z .exit)) (now (m .exit)) (now (t .exit)) (now (tm .exit)) in
+        let words = now (state .entry) in
+        ⌜ kept r (now (state .exit)) after ≡ keptOf words (eventCall (stateOf words) before (now (event .entry))) ⌝ }
+{
+    let before = *state;
+    let taken = writer::event(state_of(before), event, table, xy, ends, z, m, t, tm);
+    keep(state, taken)
+}
+
+// Takes events' records one after the other, until one is refused, and says how many. Refused: 11, 15, 5, 12.
+#[no_mangle]
+pub extern "C" fn bintolage_events(
+    state: &mut StateWords,
+    records: &[u8],
+    table: &mut [u8],
+    xy: &mut [u64],
+    ends: &mut [u32],
+    z: &mut [u64],
+    m: &mut [u64],
+    t: &mut [u64],
+    tm: &mut [u64],
+    count: &mut usize,
+) -> u8
+    ensures { λ r.
+        let before = memOf (now (table .entry)) (now (xy .entry)) (now (ends .entry)) (now (z .entry)) (now (m .entry)) (now (t .entry)) (now (tm .entry)) in
+        let after = memOf (now (table .exit)) (now (xy .exit)) (now (ends .exit)) (now (z .exit)) (now (m .exit)) (now (t .exit)) (now (tm .exit)) in
+        let words = now (state .entry) in
+        ⌜ taken r (now (count .exit)) (now (state .exit)) after ≡ takenOf words (eventsCall (stateOf words) before (now (records .entry))) ⌝ }
+{
+    let before = *state;
+    let took = writer::events(state_of(before), records, table, xy, ends, z, m, t, tm);
+    *count = took.taken;
+    keep_all(state, took)
+}
+
+// Lays a value down after the feature's other property bytes. Refused: 15, 16, 11, 6, 12.
+#[no_mangle]
+pub extern "C" fn bintolage_property(
+    state: &mut StateWords,
+    column: u32,
+    kind: u8,
+    bits: u64,
+    text: &[u8],
+    buffer: &mut [u8],
+) -> u8
+    ensures answer { λ r.
+        let call = propertyCall (stateOf (now (state .entry))) column kind bits (now (text .entry)) (now (buffer .entry)) in
+        ⌜ r ≡ call .number ⌝ }
+    ensures words { λ _.
+        let call = propertyCall (stateOf (now (state .entry))) column kind bits (now (text .entry)) (now (buffer .entry)) in
+        ⌜ now (state .exit) ≡ wordsAfter (now (state .entry)) call ⌝ }
+    ensures bytes { λ _. let s = stateOf (now (state .entry)) in
+        ⌜ now (buffer .exit) ≡ bytesAfter (s .waiting) (s .properties) column kind bits (now (text .entry)) (now (buffer .entry)) ⌝ }
+{
+    let before = *state;
+    let put = writer::property(state_of(before), column, kind, bits, text, buffer);
+    keep(state, put)
+}
+
+// Lays the feature's root down, and has it wait. Refused: 15, 12.
+#[no_mangle]
+pub extern "C" fn bintolage_finish(
+    state: &mut StateWords,
+    table: &mut [u8],
+    xy: &[u64],
+    ends: &[u32],
+    z: &[u64],
+    m: &[u64],
+    t: &[u64],
+    tm: &[u64],
+) -> u8
+    ensures { λ r.
+        let before = memOf (now (table .entry)) (now (xy .entry)) (now (ends .entry)) (now (z .entry)) (now (m .entry)) (now (t .entry)) (now (tm .entry)) in
+        let after = memOf (now (table .exit)) (now (xy .exit)) (now (ends .exit)) (now (z .exit)) (now (m .exit)) (now (t .exit)) (now (tm .exit)) in
+        let words = now (state .entry) in
+        ⌜ kept r (now (state .exit)) after ≡ keptOf words (finishCall (stateOf words) before) ⌝ }
+{
+    let before = *state;
+    let finished = writer::finish(state_of(before), table, xy, ends, z, m, t, tm);
+    keep(state, finished)
+}
+
+// Leaves a finished feature behind, and carries what is still pending into the next. Refused: 15, 12.
+#[no_mangle]
+pub extern "C" fn bintolage_next(
+    state: &mut StateWords,
+    table: &[u8],
+    xy: &mut [u64],
+    ends: &mut [u32],
+    z: &mut [u64],
+    m: &mut [u64],
+    t: &mut [u64],
+    tm: &mut [u64],
+) -> u8
+    ensures { λ r.
+        let before = memOf (now (table .entry)) (now (xy .entry)) (now (ends .entry)) (now (z .entry)) (now (m .entry)) (now (t .entry)) (now (tm .entry)) in
+        let after = memOf (now (table .exit)) (now (xy .exit)) (now (ends .exit)) (now (z .exit)) (now (m .exit)) (now (t .exit)) (now (tm .exit)) in
+        let words = now (state .entry) in
+        ⌜ kept r (now (state .exit)) after ≡ keptOf words (nextCall (stateOf words) before) ⌝ }
+{
+    let before = *state;
+    let renewed = writer::next(state_of(before), table, xy, ends, z, m, t, tm);
+    keep(state, renewed)
+}
+
+// The tree whose root is record 0, as events from the log's start, and how many.
+#[no_mangle]
+pub extern "C" fn bintolage_read(
+    table: &[u8],
+    xy: &[u64],
+    ends: &[u32],
+    z: &[u64],
+    m: &[u64],
+    t: &[u64],
+    tm: &[u64],
+    declared: u8,
+    flags: u8,
+    log: &mut [u8],
+    count: &mut u32,
+) -> u8
+    ensures { λ r. let P = poolsOf (now (xy .entry)) (now (ends .entry)) (now (z .entry)) (now (m .entry)) (now (t .entry)) (now (tm .entry)) in
+        let script = readS (flagsOf flags) (recordWith (now (table .entry)) P) declared in
+        ⌜ Said events script (now (log .entry)) r (now (count .exit)) (now (log .exit)) ⌝ }
+{
+    let read = reader::read(
+        table,
+        xy,
+        ends,
+        z,
+        m,
+        t,
+        tm,
+        declared,
+        Flags::of(flags),
+        log,
+    );
+    *count = read.count as u32;
+    read.number
+}
+
+// The values of property bytes, as value records from the log's start, how many, and whether the reading
+// stopped after the named column (0 or 1).
+#[no_mangle]
+pub extern "C" fn bintolage_read_properties(
+    bytes: &[u8],
+    has_columns: u8,
+    columns: &[u8],
+    stop: u32,
+    log: &mut [u8],
+    count: &mut u32,
+    halted: &mut u8,
+) -> u8
+    ensures said { λ r. let script = reading (now (bytes .entry)) (yes «has_columns») (now (columns .entry)) stop in
+        ⌜ Said values script (now (log .entry)) r (now (count .exit)) (now (log .exit)) ⌝ }
+    ensures stop { λ r. let script = reading (now (bytes .entry)) (yes «has_columns») (now (columns .entry)) stop in
+        ⌜ now (halted .exit) ≡ one (stopped stop script r) ⌝ }
+{
+    let read = property_reader::read_properties(bytes, has_columns != 0, columns, stop, log);
+    *count = read.count as u32;
+    *halted = read.stopped as u8;
+    read.number
+}
+
+// The box over the own xy list of record n, as bit patterns. Refused: 10, with the beginning box.
+#[no_mangle]
+pub extern "C" fn bintolage_box(
+    table: &[u8],
+    xy: &[u64],
+    ends: &[u32],
+    z: &[u64],
+    m: &[u64],
+    t: &[u64],
+    tm: &[u64],
+    n: u32,
+    edges: &mut [u64; 4],
+) -> u8
+    ensures { λ r. let P = poolsOf (now (xy .entry)) (now (ends .entry)) (now (z .entry)) (now (m .entry)) (now (t .entry)) (now (tm .entry)) in
+        let boxed = boxedOf P (recordAt (now (table .entry)) (lentOf P) n) in
+        ⌜ (r ≡ boxed .number) × (now (edges .exit) ≡ edgesOf (boxed .bbox)) ⌝ }
+{
+    let boxed = record_box::box_at(table, xy, ends, z, m, t, tm, n as usize);
+    let bits = edges_of(boxed.bbox);
+    *edges = bits;
+    boxed.number
+}

@@ -1,0 +1,4 @@
+pub mod Coords
+pub mod Seen
+pub mod PairLaws
+pub mod CoordLaws

@@ -1,0 +1,4 @@
+pub mod Head
+pub mod Event
+pub mod EventLaws
+pub mod Value

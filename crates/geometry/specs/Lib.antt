@@ -1,0 +1,5 @@
+pub mod Geometry
+pub mod Coordinate
+pub mod Events
+pub mod Told
+pub mod Examples

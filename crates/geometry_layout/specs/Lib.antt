@@ -1,0 +1,3 @@
+pub mod Geometry
+pub mod GeometryLaws
+pub mod Lone

@@ -1,0 +1,86 @@
+// What the program says to the library's answer, and what it does next.
+use bbox::Box;
+use console::end_line;
+use console::say;
+use console::say_refusal;
+use job_calls::Reply;
+use job_steps::SENT_BYTES;
+use job_steps::Stage;
+use job_steps::Turn;
+use job_steps::Work;
+use job_steps::after_event;
+use kinds::answer::Answer;
+use kinds::refusal;
+use record_box::Boxed;
+use report::first_boxed;
+use report::show_box;
+use report::show_geometry;
+
+fn say_refused(work: Work, call: &[u8], number: u8) {
+    if number != refusal::DONE {
+        work.say_feature();
+        say(call);
+        say_refusal(number);
+        end_line();
+    }
+}
+
+fn after_finish(work: Work, number: u8) -> Work {
+    say_refused(work, b", finishing it: ", number);
+    work.after_finish(number != refusal::DONE)
+}
+
+// A feature without a map has neither its boxes shown nor its properties.
+fn after_reading(work: Work, answer: Answer, parts: u32, sent: &[u8], log: &[u8]) -> Work {
+    if show_geometry(work.feature(), answer, sent, log) {
+        return work.to(Stage::Box(first_boxed(parts)));
+    }
+    work.to(Stage::Leave)
+}
+
+// The records up to the last part have their boxes shown.
+fn after_box(work: Work, n: usize, boxed: Boxed, parts: u32) -> Work {
+    show_box(n, boxed);
+    if n < parts as usize {
+        return work.to(Stage::Box(n + 1));
+    }
+    work.to(Stage::Values)
+}
+
+fn after_leaving(work: Work, number: u8) -> Work {
+    say_refused(work, b", leaving it behind: ", number);
+    work.after_feature()
+}
+
+fn answer_of(reply: Reply) -> Answer {
+    Answer {
+        number: reply.number,
+        count: reply.count,
+    }
+}
+
+fn after(work: Work, answer: Answer, bbox: Box, parts: u32, sent: &[u8], log: &[u8]) -> Work {
+    let number = answer.number;
+    let stage = work.stage;
+    match stage {
+        Stage::Event => after_event(work, number, sent),
+        Stage::Finish => after_finish(work, number),
+        Stage::Back => after_reading(work, answer, parts, sent, log),
+        Stage::Box(n) => after_box(work, n, Boxed { number, bbox }, parts),
+        Stage::Leave => after_leaving(work, number),
+        Stage::Item => work,
+        Stage::Property => work,
+        Stage::Values => work,
+        Stage::Over => work,
+    }
+}
+
+pub fn answered(turn: Turn, reply: Reply, sent: &[u8; SENT_BYTES], log: &[u8; SENT_BYTES]) -> Turn {
+    let work = turn.work;
+    let state = reply.state;
+    let bbox = reply.bbox;
+    Turn {
+        work: after(work, answer_of(reply), bbox, state.parts, sent, log),
+        state,
+    }
+}

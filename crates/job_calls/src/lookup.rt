@@ -1,0 +1,31 @@
+// The calls that leave the table and the pools as they are.
+use crate::reply::Reply;
+use crate::reply::with_box;
+use crate::reply::with_count;
+use job_steps::Stage;
+use kinds::flags::Flags;
+use writing::state::State;
+
+// The box of a record, where the stage says of which, or the feature read back to the log.
+pub fn look_up(
+    stage: Stage,
+    state: State,
+    flags: Flags,
+    table: &[u8],
+    xy: &[u64],
+    ends: &[u32],
+    z: &[u64],
+    m: &[u64],
+    t: &[u64],
+    tm: &[u64],
+    log: &mut [u8],
+) -> Reply {
+    if let Stage::Box(n) = stage {
+        return with_box(state, record_box::box_at(table, xy, ends, z, m, t, tm, n));
+    }
+    let declared = state.typing.declared;
+    with_count(
+        state,
+        reader::read(table, xy, ends, z, m, t, tm, declared, flags, log),
+    )
+}

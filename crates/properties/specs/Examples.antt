@@ -1,0 +1,88 @@
+-- 01's B12 to B14, and more property bytes, read to a log of one record and four bytes that stay as they are.
+use mathlib.Core.Path.{_≡_, refl}
+use mathlib.Core.Bool.{true, false}
+use mathlib.Core.List.{List, [], _∷_, _++_}
+use Prim.Native.Nat.{ℕ}
+use lib.ListN.{replicate}
+use Rattle.laws.specs.Script.{out, run, put, roomAt}
+use Rattle.event_layout.specs.Value.{valueBytes}
+use Rattle.store.specs.Values.{values}
+use Rattle.utf8.specs.Utf8.{has, rowOf, begins, charLength, firstBad, isUtf8}
+use Rattle.property_value.specs.Column.{widthOf, isText}
+use Rattle.property_value.specs.Value.{wordOf, textOk}
+use Rattle.property_reader.specs.Reading.{numberAt, bytesAt, textAt, valueAt, itemAt, onItem, propertiesUpTo, propertiesFrom, reading, says, stopped}
+use Rattle.utf8.specs.Utf8 as Utf8
+
+abbrev log : List ℕ
+log = replicate 20 0xee
+
+abbrev rest : List ℕ
+rest = replicate 4 0xee
+
+-- a Byte of -1, by its bits
+pub b12 : run values (reading (0x00 ∷ 0x00 ∷ 0xff ∷ []) true (0 ∷ []) 65536) log 0
+    ≡ out 0 1 ((0 ∷ 0 ∷ 0 ∷ 0 ∷ 1 ∷ 0 ∷ 0 ∷ 0 ∷ 0xff ∷ 0 ∷ 0 ∷ 0 ∷ 0 ∷ 0 ∷ 0 ∷ 0 ∷ []) ++ rest)
+unfolding run put roomAt values valueBytes reading propertiesFrom propertiesUpTo onItem itemAt valueAt numberAt wordOf widthOf
+b12 = refl
+
+-- a UByte of 5, and a trailing byte
+pub b13 : run values (reading (0x00 ∷ 0x00 ∷ 0x05 ∷ 0x07 ∷ []) true (1 ∷ []) 65536) log 0
+    ≡ out 0 1 ((0 ∷ 0 ∷ 1 ∷ 0 ∷ 1 ∷ 0 ∷ 0 ∷ 0 ∷ 5 ∷ 0 ∷ 0 ∷ 0 ∷ 0 ∷ 0 ∷ 0 ∷ 0 ∷ []) ++ rest)
+unfolding run put roomAt values valueBytes reading propertiesFrom propertiesUpTo onItem itemAt valueAt numberAt wordOf widthOf
+b13 = refl
+
+pub b14 : run values (reading (0x01 ∷ 0x00 ∷ []) true (0 ∷ []) 65536) log 0
+    ≡ out 2 0 log
+unfolding run put roomAt values valueBytes reading propertiesFrom propertiesUpTo onItem itemAt valueAt numberAt wordOf widthOf
+b14 = refl
+
+pub string-cut : run values (reading (0x00 ∷ 0x00 ∷ 0x03 ∷ 0x00 ∷ 0x00 ∷ 0x00 ∷ 0x61 ∷ 0x62 ∷ []) true (11 ∷ []) 65536) log 0
+    ≡ out 14 0 log
+unfolding run put roomAt values valueBytes reading propertiesFrom propertiesUpTo onItem itemAt valueAt textAt bytesAt textOk isText isUtf8 firstBad Utf8.run charLength rowOf begins has
+string-cut = refl
+
+-- a text's value record has the place where the text starts as its word, and not the length
+string-found : run values (reading (0x00 ∷ 0x00 ∷ 0x02 ∷ 0x00 ∷ 0x00 ∷ 0x00 ∷ 0x61 ∷ 0x62 ∷ []) true (11 ∷ []) 65536) log 0
+    ≡ out 0 1 ((0 ∷ 0 ∷ 11 ∷ 0 ∷ 2 ∷ 0 ∷ 0 ∷ 0 ∷ 6 ∷ 0 ∷ 0 ∷ 0 ∷ 0 ∷ 0 ∷ 0 ∷ 0 ∷ []) ++ rest)
+unfolding run put roomAt values valueBytes reading propertiesFrom propertiesUpTo onItem itemAt valueAt textAt bytesAt textOk isText isUtf8 firstBad Utf8.run charLength rowOf begins has
+string-found = refl
+
+string-not-utf8 : run values (reading (0x00 ∷ 0x00 ∷ 0x01 ∷ 0x00 ∷ 0x00 ∷ 0x00 ∷ 0x80 ∷ []) true (11 ∷ []) 65536) log 0
+    ≡ out 6 0 log
+unfolding run put roomAt values valueBytes reading propertiesFrom propertiesUpTo onItem itemAt valueAt textAt bytesAt textOk isText isUtf8 firstBad Utf8.run charLength rowOf begins has
+string-not-utf8 = refl
+
+binary-unchecked : run values (reading (0x00 ∷ 0x00 ∷ 0x01 ∷ 0x00 ∷ 0x00 ∷ 0x00 ∷ 0x80 ∷ []) true (14 ∷ []) 65536) log 0
+    ≡ out 0 1 ((0 ∷ 0 ∷ 14 ∷ 0 ∷ 1 ∷ 0 ∷ 0 ∷ 0 ∷ 6 ∷ 0 ∷ 0 ∷ 0 ∷ 0 ∷ 0 ∷ 0 ∷ 0 ∷ []) ++ rest)
+unfolding run put roomAt values valueBytes reading propertiesFrom propertiesUpTo onItem itemAt valueAt textAt bytesAt textOk isText isUtf8 firstBad Utf8.run charLength rowOf begins has
+binary-unchecked = refl
+
+bool-seven : run values (reading (0x00 ∷ 0x00 ∷ 0x07 ∷ []) true (2 ∷ []) 65536) log 0
+    ≡ out 0 1 ((0 ∷ 0 ∷ 2 ∷ 0 ∷ 1 ∷ 0 ∷ 0 ∷ 0 ∷ 1 ∷ 0 ∷ 0 ∷ 0 ∷ 0 ∷ 0 ∷ 0 ∷ 0 ∷ []) ++ rest)
+unfolding run put roomAt values valueBytes reading propertiesFrom propertiesUpTo onItem itemAt valueAt numberAt wordOf widthOf
+bool-seven = refl
+
+type-above-14 : run values (reading (0x01 ∷ 0x00 ∷ 0x00 ∷ 0x00 ∷ 0x05 ∷ []) true (1 ∷ 15 ∷ []) 65536) log 0
+    ≡ out 0 1 ((0 ∷ 0 ∷ 1 ∷ 0 ∷ 1 ∷ 0 ∷ 0 ∷ 0 ∷ 5 ∷ 0 ∷ 0 ∷ 0 ∷ 0 ∷ 0 ∷ 0 ∷ 0 ∷ []) ++ rest)
+unfolding run put roomAt values valueBytes reading propertiesFrom propertiesUpTo onItem itemAt valueAt numberAt wordOf widthOf
+type-above-14 = refl
+
+log-full : run values (reading (0x00 ∷ 0x00 ∷ 0x05 ∷ 0x00 ∷ 0x00 ∷ 0x06 ∷ []) true (1 ∷ []) 65536) log 0
+    ≡ out 9 1 ((0 ∷ 0 ∷ 1 ∷ 0 ∷ 1 ∷ 0 ∷ 0 ∷ 0 ∷ 5 ∷ 0 ∷ 0 ∷ 0 ∷ 0 ∷ 0 ∷ 0 ∷ 0 ∷ []) ++ rest)
+unfolding run put roomAt values valueBytes reading propertiesFrom propertiesUpTo onItem itemAt valueAt numberAt wordOf widthOf
+log-full = refl
+
+-- after the named column's value the rest is not read, though column 9 is not there
+stop-after : run values (reading (0x00 ∷ 0x00 ∷ 0x05 ∷ 0x09 ∷ 0x00 ∷ []) true (1 ∷ []) 0) log 0
+    ≡ out 0 1 ((0 ∷ 0 ∷ 1 ∷ 0 ∷ 1 ∷ 0 ∷ 0 ∷ 0 ∷ 5 ∷ 0 ∷ 0 ∷ 0 ∷ 0 ∷ 0 ∷ 0 ∷ 0 ∷ []) ++ rest)
+unfolding run put roomAt values valueBytes reading propertiesFrom propertiesUpTo onItem itemAt valueAt numberAt wordOf widthOf
+stop-after = refl
+
+stop-said : stopped 0 (reading (0x00 ∷ 0x00 ∷ 0x05 ∷ 0x09 ∷ 0x00 ∷ []) true (1 ∷ []) 0) 0 ≡ true
+unfolding stopped says reading propertiesFrom propertiesUpTo onItem itemAt valueAt numberAt wordOf widthOf
+stop-said = refl
+
+-- where the log has no room for the named column's value the reading did not stop
+stop-unsaid : stopped 0 (reading (0x00 ∷ 0x00 ∷ 0x05 ∷ 0x09 ∷ 0x00 ∷ []) true (1 ∷ []) 0) 9 ≡ false
+unfolding stopped says reading propertiesFrom propertiesUpTo onItem itemAt valueAt numberAt wordOf widthOf
+stop-unsaid = refl

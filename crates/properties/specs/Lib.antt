@@ -1,0 +1,4 @@
+pub mod ReadBack
+pub mod Readings
+pub mod RoundTrip
+pub mod Examples

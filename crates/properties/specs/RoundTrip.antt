@@ -1,0 +1,158 @@
+-- Any list of accepted properties, written one behind the other and read with the columns' own types, gives the same values in order.
+use mathlib.Core.Path.{_≡_, refl, sym, ap, _∙_}
+use mathlib.Core.Bool.{true, false}
+use mathlib.Core.List.{List, [], _∷_, _++_, append-assoc, append-nil}
+use Prim.Native.Nat.{ℕ, suc, _+_, _≤_, _<_}
+use native.Mathlib.Omega.{arith}
+use lib.Dec.{eqb, lit<}
+use lib.ListN.{length, getD, take, replicate, length-append, length-take}
+use lib.Seq.{length-sets}
+use borrow.Author.Tests.{ne-eqb}
+use Rattle.laws.specs.Script.{Script, stop, say}
+use Rattle.kinds.specs.declared.value.Value.{Value}
+use Rattle.utf8.specs.Utf8.{isUtf8, firstBad, run, charLength, rowOf, begins, has}
+use Rattle.property_value.specs.Column.{widthOf, isText}
+use Rattle.property_writer.specs.declared.PropertyPut.{PropertyPut}
+use Rattle.property_writer.specs.Writing.{textBytes, laidDown, propertyBytes, refusalOf, putOf, bytesAfter}
+use Rattle.property_value.specs.Value.{malformed, textOk}
+use Rattle.property_writer.specs.WritingLaws.{Accepted, accepted, put-done, bytes-done, used-then}
+use Rattle.property_reader.specs.Reading.{propertiesFrom, reading}
+use Rattle.properties.specs.ReadBack.{Writable, valueBack, read-back}
+use Rattle.property_reader.specs.ReadingLaws.{read-end, read-whole}
+
+-- what is handed to one write
+pub record Property : Type 0 where
+  pub column : ℕ
+  pub kind : ℕ
+  pub bits : ℕ
+  pub text : List ℕ
+
+abbrev pub bytesOf : Property → List ℕ
+bytesOf p = propertyBytes (p .column) (p .kind) (p .bits) (p .text)
+
+-- ---- a row of writes, each into what the last left or into any buffer that agrees with it on what is used
+pub data Wrote : List ℕ → ℕ → List Property → List ℕ → ℕ → Type 0 where
+  none : {buffer : List ℕ} {used : ℕ} → Wrote buffer used [] buffer used
+  one : {buffer after : List ℕ} {used then : ℕ} {p : Property} {ps : List Property} (lent : List ℕ)
+      → take used lent ≡ take used buffer
+      → refusalOf false used (p .column) (p .kind) (p .bits) (p .text) (length lent) ≡ 0
+      → Wrote (bytesAfter false used (p .column) (p .kind) (p .bits) (p .text) lent) (putOf false used (p .column) (p .kind) (p .bits) (p .text) lent .used) ps after then
+      → Wrote buffer used (p ∷ ps) after then
+
+-- the column list gives each property's column its type
+pub data Typed (columns : List ℕ) : List Property → Type 0 where
+  none : Typed columns []
+  one : {p : Property} {ps : List Property} → p .column < length columns → getD columns (p .column) 0 ≡ p .kind → Typed columns ps → Typed columns (p ∷ ps)
+
+-- the values to be read, the first property's bytes starting at a place
+abbrev pub valuesFrom : ℕ → List Property → List Value
+valuesFrom at [] = []
+valuesFrom at (p ∷ ps) = valueBack (p .column) (p .kind) (p .bits) (p .text) (at + 2) ∷ valuesFrom (at + length (bytesOf p)) ps
+
+abbrev pub saying : List Value → Script Value
+saying [] = stop 0
+saying (v ∷ vs) = say v (saying vs)
+
+abbrev pub joined : List Property → List ℕ
+joined [] = []
+joined (p ∷ ps) = bytesOf p ++ joined ps
+
+-- what one accepted write may be read by
+writable : (columns : List ℕ) (p : Property) {used lent : ℕ} → Accepted false used (p .column) (p .kind) (p .bits) (p .text) lent
+    → p .column < length columns → getD columns (p .column) 0 ≡ p .kind → Writable columns (p .column) (p .kind) (p .bits) (p .text)
+writable columns p a listed typed =
+    record {
+      index = a .index;
+      listed = listed;
+      typed = typed;
+      known = a .known;
+      number = λ h. (a .exact .number (omega arith), a .truth);
+      sound = λ h. (a .exact .count h, a .utf8);
+    }
+
+-- ---- what one write leaves
+module _ (used : ℕ) (p : Property) (lent : List ℕ) (done : refusalOf false used (p .column) (p .kind) (p .bits) (p .text) (length lent) ≡ 0) where
+  abbrev left : List ℕ
+  left = bytesAfter false used (p .column) (p .kind) (p .bits) (p .text) lent
+
+  fits : Accepted false used (p .column) (p .kind) (p .bits) (p .text) (length lent)
+  fits = accepted false used (p .column) (p .kind) (p .bits) (p .text) (length lent) done
+
+  grown : putOf false used (p .column) (p .kind) (p .bits) (p .text) lent .used ≡ used + length (bytesOf p)
+  grown = ap (λ (r : PropertyPut). r .used) (put-done false used (p .column) (p .kind) (p .bits) (p .text) lent done)
+
+  long : length left ≡ length lent
+  long = ap length (bytes-done false used (p .column) (p .kind) (p .bits) (p .text) lent done) ∙ length-sets lent used (bytesOf p)
+
+  front : take (used + length (bytesOf p)) left ≡ take used lent ++ bytesOf p
+  front = used-then false used (p .column) (p .kind) (p .bits) (p .text) lent done
+
+-- ---- the bytes that are used at the end
+record Used (buffer : List ℕ) (used : ℕ) (ps : List Property) (after : List ℕ) (then : ℕ) : Type 0 where
+  bytes : take then after ≡ take used buffer ++ joined ps
+  within : then ≤ length after
+  usable : then ≤ 65536
+
+used-bytes : {buffer after : List ℕ} {used then : ℕ} {ps : List Property} → Wrote buffer used ps after then → used ≤ length buffer → used ≤ 65536 → Used buffer used ps after then
+used-bytes {buffer} {used = used} none h k = record { bytes = sym (append-nil (take used buffer)); within = h; usable = k }
+used-bytes (one {buffer = buffer} {used = used} {p = p} {ps = ps} lent same done rest) h k =
+    let a = fits used p lent done in
+    let g = grown used p lent done in
+    let later = used-bytes rest (omega (arith, long used p lent done, a .room)) (omega (arith, a .usable)) in
+    record {
+      bytes = later .bytes ∙ rw (g, front used p lent done, same) (append-assoc (take used buffer) (bytesOf p) (joined ps));
+      within = later .within;
+      usable = later .usable;
+    }
+
+-- ---- read where they stand
+module _ (columns : List ℕ) (last : ℕ) (none-named : 65536 ≤ last) where
+  next : (p : Property) (ps : List Property) (before : List ℕ) → Writable columns (p .column) (p .kind) (p .bits) (p .text)
+      → propertiesFrom (before ++ (bytesOf p ++ joined ps)) columns last (length before + length (bytesOf p)) ≡ saying (valuesFrom (length before + length (bytesOf p)) ps)
+      → propertiesFrom (before ++ (bytesOf p ++ joined ps)) columns last (length before) ≡ saying (valuesFrom (length before) (p ∷ ps))
+  unfolding propertyBytes
+  next p ps before w later =
+      let value : Value = valueBack (p .column) (p .kind) (p .bits) (p .text) (length before + 2) in
+      let other : eqb (p .column) last ≡ false = ne-eqb (p .column) last (λ e. omega (arith, w .index)) in
+      let n : ℕ = length (laidDown (p .kind) (p .bits) (p .text)) in
+      let place : length before + 2 + n ≡ length before + suc (suc n) = omega arith in
+      read-back columns (p .column) (p .kind) (p .bits) (p .text) w last before (joined ps) ∙ rw (other, place) (ap (say value) later)
+
+  read-from : {buffer after : List ℕ} {used then : ℕ} {ps : List Property} → Wrote buffer used ps after then → Typed columns ps
+      → (before : List ℕ) → propertiesFrom (before ++ joined ps) columns last (length before) ≡ saying (valuesFrom (length before) ps)
+  read-from none none before = rw (append-nil before) (read-end before columns last)
+  read-from (one {used = used} lent same done rest) (one {p = p} {ps = ps} listed typed others) before =
+      let a = fits used p lent done in
+      let here : propertiesFrom (before ++ (bytesOf p ++ joined ps)) columns last (length before + length (bytesOf p)) ≡ saying (valuesFrom (length before + length (bytesOf p)) ps)
+      = rw (append-assoc before (bytesOf p) (joined ps), length-append before (bytesOf p)) at (read-from rest others (before ++ bytesOf p)) in
+      next p ps before (writable columns p a listed typed) here
+
+-- the values are said in order, and reading is done
+pub round-trip : {buffer after : List ℕ} {then : ℕ} {ps : List Property} → Wrote buffer 0 ps after then → (columns : List ℕ) → Typed columns ps
+    → (last : ℕ) → 65536 ≤ last → reading (take then after) true columns last ≡ saying (valuesFrom 0 ps)
+round-trip {buffer} {after} {then} {ps} wrote columns typed last h =
+    let used = used-bytes wrote (omega arith) (omega arith) in
+    let short : length (take then after) ≤ 65536 = omega (arith, length-take then after, used .usable) in
+    read-whole (take then after) columns last short
+    ∙ ap (λ (bytes : List ℕ). propertiesFrom bytes columns last 0) (used .bytes)
+    ∙ read-from columns last h wrote typed []
+
+-- ---- such rows there are: an Int and a String, each into a buffer with other bytes behind what is used
+abbrev int : Property
+int = record { column = 0; kind = 5; bits = 7; text = [] }
+
+abbrev name : Property
+name = record { column = 1; kind = 11; bits = 0; text = 0x61 ∷ [] }
+
+abbrev fresh : List ℕ
+fresh = replicate 20 0xaa
+
+abbrev lent-again : List ℕ
+lent-again = 0 ∷ 0 ∷ 7 ∷ 0 ∷ 0 ∷ 0 ∷ replicate 10 0xbb
+
+a-row : Wrote fresh 0 (int ∷ name ∷ []) (bytesAfter false 6 1 11 0 (0x61 ∷ []) lent-again) 13
+unfolding refusalOf malformed textOk putOf bytesAfter propertyBytes laidDown textBytes widthOf isText isUtf8 firstBad run charLength rowOf begins has
+a-row = one fresh refl refl (one lent-again refl refl none)
+
+a-row-typed : Typed (5 ∷ 11 ∷ []) (int ∷ name ∷ [])
+a-row-typed = one (lit< tt) refl (one (lit< tt) refl none)

@@ -1,0 +1,1 @@
+// Theorems only: property bytes written and read back, and the paper's examples of them.

@@ -1,0 +1,82 @@
+-- Property bytes read: 01, "Property bytes" and "Value, 16 bytes". What a reading has to say is a script of values, and `run values` of it says what the log then holds.
+use mathlib.Core.Bool.{Bool, false, cond, not, _&&_, _||_}
+use mathlib.Core.List.{List}
+use Prim.Native.Nat.{ℕ, zero, suc, _+_, _-_}
+use lib.Dec.{leb, ltb, eqb}
+use lib.ListN.{length, getD, take, drop}
+use Rattle.laws.specs.Bytes.{wordAt}
+use Rattle.laws.specs.Script.{Script, stop, say}
+use Rattle.kinds.specs.declared.value.Value.{Value}
+use Rattle.property_value.specs.Column.{widthOf}
+use Rattle.property_value.specs.Value.{textOk, wordOf}
+use Rattle.property_reader.specs.declared.item.Item.{Item}
+use Rattle.property_reader.specs.declared.item.Item.the-variants.{End, Refused, Skipped, Found}
+
+abbrev pub valueOf : ℕ → ℕ → ℕ → ℕ → Value
+valueOf column kind len word = record { column = column; kind = kind; len = len; word = word }
+
+-- ---- what stands at a place
+
+-- a number: its byte length is its width, its word its bytes, padded with zeros
+unfoldable pub numberAt : List ℕ → ℕ → ℕ → ℕ → Item
+numberAt bytes column kind at =
+    cond (ltb (length bytes - at) (widthOf kind)) (Refused 14)
+    (Found (valueOf column kind (widthOf kind) (wordOf kind (wordAt (widthOf kind) bytes at))) (at + widthOf kind))
+
+-- `len` bytes of types 11 to 14: the word is their start within the property bytes
+unfoldable pub bytesAt : List ℕ → ℕ → ℕ → ℕ → ℕ → Item
+bytesAt bytes column kind start len =
+    cond (ltb (length bytes - start) len) (Refused 14)
+    (cond (not (textOk kind (take len (drop start bytes)))) (Refused 6)
+    (Found (valueOf column kind len start) (start + len)))
+
+-- "types 11 to 14 have a u32 length first"
+unfoldable pub textAt : List ℕ → ℕ → ℕ → ℕ → Item
+textAt bytes column kind at =
+    cond (ltb (length bytes - at) 4) (Refused 14)
+    (bytesAt bytes column kind (at + 4) (wordAt 4 bytes at))
+
+-- "a column type above 14 takes no bytes and gives no value"
+unfoldable pub valueAt : List ℕ → ℕ → ℕ → ℕ → Item
+valueAt bytes column kind at =
+    cond (ltb 14 kind) (Skipped at)
+    (cond (ltb kind 11) (numberAt bytes column kind at)
+    (textAt bytes column kind at))
+
+-- "reading goes on while at least two bytes remain"; then the refusals in order: 2, 14, 6
+unfoldable pub itemAt : List ℕ → List ℕ → ℕ → Item
+itemAt bytes columns at =
+    cond (ltb (length bytes - at) 2) End
+    (cond (leb (length columns) (wordAt 2 bytes at)) (Refused 2)
+    (valueAt bytes (wordAt 2 bytes at) (getD columns (wordAt 2 bytes at) 0) (at + 2)))
+
+-- ---- a reading
+
+-- "the caller names a column to stop after"
+unfoldable pub onItem : ℕ → (ℕ → Script Value) → Item → Script Value
+onItem last later End = stop 0
+onItem last later (Refused number) = stop number
+onItem last later (Skipped next) = later next
+onItem last later (Found value next) = say value (cond (eqb (value .column) last) (stop 0) (later next))
+
+-- the properties from a place on, at most `most` of them
+unfoldable pub propertiesUpTo : ℕ → List ℕ → List ℕ → ℕ → ℕ → Script Value
+propertiesUpTo zero bytes columns last at = stop 0
+propertiesUpTo (suc most) bytes columns last at = onItem last (propertiesUpTo most bytes columns last) (itemAt bytes columns at)
+
+-- all properties from a place on: there are no more than bytes
+unfoldable pub propertiesFrom : List ℕ → List ℕ → ℕ → ℕ → Script Value
+propertiesFrom bytes columns last at = propertiesUpTo (length bytes - at) bytes columns last at
+
+-- "without a column list nothing is read"; 65,536 property bytes are usable
+unfoldable pub reading : List ℕ → Bool → List ℕ → ℕ → Script Value
+reading bytes hasColumns columns last = cond hasColumns (propertiesFrom (take 65536 bytes) columns last 0) (stop 0)
+
+-- a value of this column is said
+unfoldable pub says : ℕ → Script Value → Bool
+says column (stop number) = false
+says column (say value s) = eqb (value .column) column || says column s
+
+-- "the answer also says whether it stopped": all was said, and the named column's value with it
+unfoldable pub stopped : ℕ → Script Value → ℕ → Bool
+stopped last s number = eqb number 0 && says last s

@@ -1,0 +1,87 @@
+// Property bytes read: a log record for each value.
+mod item;
+
+use item::Item;
+use item::item_at;
+use kinds::refusal;
+use property_value::usable_length;
+use store::say_value;
+ghost use mathlib.Core.Path.{_≡_};
+ghost use mathlib.Core.Bool.{false};
+ghost use Rattle.laws.specs.Script.{out, run};
+ghost use Rattle.store.specs.Values.{values};
+ghost use Rattle.property_reader.specs.Reading.{propertiesFrom, reading, stopped};
+
+// The answer's number and count of log records, and whether the reading stopped after the column that the caller named.
+pub struct PropertiesRead {
+    pub number: u8,
+    pub count: usize,
+    pub stopped: bool,
+}
+
+// Reads the usable property bytes into a log. Without a column list nothing is read.
+pub fn read_properties(
+    bytes: &[u8],
+    has_columns: bool,
+    columns: &[u8],
+    stop: u32,
+    log: &mut [u8],
+) -> PropertiesRead
+    ensures { λ r. let s = reading (now (bytes .entry)) «has_columns» (now (columns .entry)) stop in
+        ⌜ run values s (now (log .entry)) 0 ≡ out (r .number) (r .count) (now (log .exit)) ⌝ }
+    ensures { λ r. ⌜ r .stopped ≡ stopped stop (reading (now (bytes .entry)) «has_columns» (now (columns .entry)) stop) (r .number) ⌝ }
+{
+    if !has_columns {
+        return unstopped(refusal::DONE, 0);
+    }
+    let end = usable_length(bytes.len());
+    read_all(&bytes[0..end], columns, stop, log)
+}
+
+fn read_all(bytes: &[u8], columns: &[u8], stop: u32, log: &mut [u8]) -> PropertiesRead
+    ensures { λ r. let s = propertiesFrom (now (bytes .entry)) (now (columns .entry)) stop 0 in
+        ⌜ run values s (now (log .entry)) 0 ≡ out (r .number) (r .count) (now (log .exit)) ⌝ }
+    ensures { λ r. ⌜ r .stopped ≡ stopped stop (propertiesFrom (now (bytes .entry)) (now (columns .entry)) stop 0) (r .number) ⌝ }
+{
+    let mut at = 0;
+    let mut count = 0;
+    loop {
+        let item = item_at(bytes, columns, at);
+        match item {
+            Item::End => {
+                return unstopped(refusal::DONE, count);
+            }
+            Item::Refused(number) => {
+                return unstopped(number, count);
+            }
+            Item::Skipped(next) => {
+                at = next;
+            }
+            Item::Found(value, next) => {
+                let said = say_value(log, count, value);
+                if said.number != refusal::DONE {
+                    return unstopped(said.number, said.count);
+                }
+                if value.column as u32 == stop {
+                    return PropertiesRead {
+                        number: refusal::DONE,
+                        count: said.count,
+                        stopped: true,
+                    };
+                }
+                count = said.count;
+                at = next;
+            }
+        }
+    }
+}
+
+fn unstopped(number: u8, count: usize) -> PropertiesRead
+    ensures { λ r. ⌜ r ≡ record { number = number; count = count; stopped = false } ⌝ }
+{
+    PropertiesRead {
+        number,
+        count,
+        stopped: false,
+    }
+}

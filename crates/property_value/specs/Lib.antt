@@ -1,0 +1,4 @@
+pub mod Column
+pub mod ColumnLaws
+pub mod Value
+pub mod ValueLaws

@@ -1,0 +1,19 @@
+-- Which bits and bytes are a value of a column type, and the word that a number is read to.
+use mathlib.Core.Bool.{Bool, true, cond, _&&_, _||_}
+use mathlib.Core.List.{List}
+use Prim.Native.Nat.{ℕ, _^_}
+use lib.Dec.{leb, ltb, eqb}
+use Rattle.utf8.specs.Utf8.{isUtf8}
+use Rattle.property_value.specs.Column.{widthOf, isText}
+
+-- a type above 14, a Bool above 1, or bits beyond a number's width
+unfoldable pub malformed : ℕ → ℕ → Bool
+malformed kind bits = ltb 14 kind || (eqb kind 2 && ltb 1 bits) || (leb kind 10 && leb (256 ^ widthOf kind) bits)
+
+-- "text types are checked UTF-8 both ways; Binary is not"
+unfoldable pub textOk : ℕ → List ℕ → Bool
+textOk kind text = cond (isText kind) (isUtf8 text) true
+
+-- "Bool gives 0 or 1": 0 is false, any other byte is true
+unfoldable pub wordOf : ℕ → ℕ → ℕ
+wordOf kind bits = cond (eqb kind 2) (cond (eqb bits 0) 0 1) bits

@@ -1,7 +1,0 @@
-use mathlib.Core.Path.{refl}
-use Rattle.props.specs.Column.{isText}
-use Rattle.props.proofs.column.is_text.Statement.{statement}
-use Rattle.props.proofs.column.is_text.Tie as tie
-
-pub is-text-spec : {M : Type 1} → statement M
-is-text-spec = tie.close (tie.spec (λ c. unfold isText in refl))

@@ -1,9 +1,0 @@
-pub mod Column
-pub mod ColumnLaws
-pub mod Writing
-pub mod WritingLaws
-pub mod Reading
-pub mod ReadingLaws
-pub mod ReadingSteps
-pub mod RoundTrip
-pub mod Examples

@@ -1,0 +1,18 @@
+// A finished feature, read back, judged and shown.
+mod boxes;
+mod feature;
+mod names;
+mod row;
+mod values;
+mod verdict;
+
+pub use boxes::first_boxed;
+pub use boxes::show_box;
+pub use feature::Feature;
+pub use feature::Properties;
+pub use feature::show_geometry;
+pub use feature::show_properties;
+pub use names::COLUMNS;
+pub use names::NAME_BYTES;
+pub use row::first;
+pub use verdict::KEPT;

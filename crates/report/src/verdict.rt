@@ -1,0 +1,71 @@
+// Whether a feature came back as it went in.
+use crate::row::EVENT_BYTES;
+use crate::row::common;
+use crate::row::same;
+use console::end_line;
+use console::say;
+use console::say_count;
+use console::say_record;
+use console::say_refusal;
+use kinds::answer::Answer;
+use kinds::geometry_type;
+use kinds::refusal;
+
+// So many events of a feature are kept to be compared.
+pub const KEPT: usize = 16384;
+
+// An event of a row, as far as it has it.
+fn say_nth(events: &[u8], n: usize) {
+    if n >= events.len() / EVENT_BYTES {
+        return say(b"nothing");
+    }
+    let from = EVENT_BYTES * n;
+    let end = from + EVENT_BYTES;
+    say_record(&events[from..end], geometry_type::UNKNOWN);
+}
+
+fn say_difference(sent: &[u8], back: &[u8]) {
+    let n = common(sent, back) / EVENT_BYTES;
+    say(b": COMES BACK DIFFERENT from event ");
+    say_count(n + 1);
+    say(b" on\n  went in:   ");
+    say_nth(sent, n);
+    say(b"\n  came back: ");
+    say_nth(back, n);
+    say(b"\n  what came back, which is NOT what went in:\n");
+}
+
+fn say_compared(sent: &[u8], back: &[u8]) {
+    if same(sent, back) {
+        return say(b": comes back as it went in\n");
+    }
+    say_difference(sent, back);
+}
+
+fn say_last(back: &[u8], count: usize) {
+    if count == 0 {
+        return;
+    }
+    say(b", the last: ");
+    say_nth(back, count - 1);
+}
+
+fn say_unread(answer: Answer, back: &[u8]) {
+    say(b": no map, reading it back is ");
+    say_refusal(answer.number);
+    say(b", after ");
+    say_count(answer.count);
+    say(b" events");
+    say_last(back, answer.count);
+    end_line();
+}
+
+// Answers whether there is a map to show.
+pub fn say_verdict(answer: Answer, sent: &[u8], back: &[u8]) -> bool {
+    if answer.number == refusal::DONE {
+        say_compared(sent, back);
+        return true;
+    }
+    say_unread(answer, back);
+    false
+}

@@ -1,0 +1,88 @@
+-- A plain event: it changes no typing and finishes no part. Plain are a pair, a coordinate, and a begin that sets no type.
+use mathlib.Core.Path.{_≡_, refl, sym, ap, _∙_}
+use mathlib.Core.Bool.{Bool, true, false, cond, not, _&&_}
+use mathlib.Core.List.{List}
+use Prim.Native.Nat.{ℕ, _+_, _≤_}
+use native.Mathlib.Omega.{arith}
+use lib.Dec.{leb, ltb, eqb}
+use borrow.Author.Tests.{leb-true, ltb-false, le-ltb, ne-eqb}
+use Rattle.laws.specs.Cond.{if-so, if-not}
+use Rattle.laws.specs.Every.{never, both}
+use Rattle.kinds.specs.Event.{WellFormed, isTaggedType}
+use Rattle.kinds.specs.declared.event.Event.{Event}
+use Rattle.kinds.specs.declared.geometry.Lent.{Lent}
+use Rattle.store.specs.Log.{heard}
+use Rattle.store.specs.LogLaws.{HeardPair, HeardCoordinate, HeardQuiet}
+use Rattle.writing.specs.declared.ask.Added.{Added}
+use Rattle.writing.specs.declared.ask.Ask.{Ask}
+use Rattle.writing.specs.declared.set_type.Typed.{Typed}
+use Rattle.writing.specs.declared.set_type.Typed.the-variants.{Set}
+use Rattle.writing.specs.declared.state.State.{State}
+use Rattle.writing.specs.declared.state.Wrote.{Wrote}
+use Rattle.writing.specs.State.{withPending, recordsUsed, wrote}
+use Rattle.writing.specs.Calls.{ask, noWords, pairWith, begun, askOf, hasRoom, isReady, grownAll, roomOr, stateAfter, decideEvent}
+
+-- what it asks for
+abbrev pub plain : State → Added → Ask
+plain s added = ask (Set (s .typing)) added false
+
+-- why it is refused, where it is: it is not its turn, or there is no room
+abbrev pub blockedNumber : State → ℕ
+blockedNumber s = cond (s .waiting) 15 12
+
+-- ---- bytes that are an event which asks, in every state, for such words and no more
+pub record PlainEvent (bytes : List ℕ) (added : Added) (e : Event) : Type 0 where
+  pub is : heard bytes ≡ WellFormed e
+  pub asks : (s : State) → askOf (s .typing) e ≡ plain s added
+
+pair-asks : (s : State) (e : Event) → leb 64 (e .kind) ≡ true → askOf (s .typing) e ≡ plain s (pairWith (e .present))
+unfolding askOf
+pair-asks s e far =
+    let no-begin : 32 ≤ e .kind = omega (arith, leb-true 64 (e .kind) far) in
+    sym (if-not _ (le-ltb _ _ no-begin) (if-so _ far refl))
+
+tagged-begins : (kind : ℕ) → isTaggedType kind ≡ true → ltb kind 32 ≡ true
+tagged-begins kind h = by-test (ltb kind 32) refl
+  where
+    by-test : (b : Bool) → ltb kind 32 ≡ b → ltb kind 32 ≡ true
+    by-test true is = is
+    by-test false is =
+        let far : 32 ≤ kind = ltb-false kind 32 is in
+        absurd (never (rw (ne-eqb kind 2 (λ k. omega (arith, far, k)), ne-eqb kind 3 (λ k. omega (arith, far, k)), ne-eqb kind 17 (λ k. omega (arith, far, k))) at h))
+
+quiet-asks : (s : State) (e : Event) → (isTaggedType (e .kind) && not (e .tagged)) ≡ true → askOf (s .typing) e ≡ plain s noWords
+unfolding askOf begun
+quiet-asks s e h =
+    let begins = tagged-begins (e .kind) (both (isTaggedType (e .kind)) (not (e .tagged)) h .0) in
+    sym (if-so _ begins (ap (λ (t : Typed). ask t noWords false) (if-so _ h refl)))
+
+pub pair-plain : {bytes : List ℕ} {x y : ℕ} (h : HeardPair bytes x y) → PlainEvent bytes (pairWith 0) (h .event)
+pair-plain h =
+    record { is = h .is; asks = λ s. pair-asks s (h .event) (ap (leb 64) (h .kind)) ∙ ap (λ (present : ℕ). plain s (pairWith present)) (h .alone) }
+
+pub coordinate-plain : {bytes : List ℕ} (e : Event) → HeardCoordinate bytes e → PlainEvent bytes (pairWith (e .present)) e
+coordinate-plain e h = record { is = h .is; asks = λ s. pair-asks s e (ap (leb 64) (h .kind)) }
+
+pub quiet-plain : {bytes : List ℕ} (h : HeardQuiet bytes) → PlainEvent bytes noWords (h .event)
+quiet-plain h = record { is = h .is; asks = λ s. quiet-asks s (h .event) (h .quiet) }
+
+-- ---- its answer, from the test of readiness and the test of what it adds
+module _ (s : State) (added : Added) (records : ℕ) (pools : Lent) (ready test : Bool) (tells : isReady s records pools ≡ ready) (apart : hasRoom (s .pending) added (recordsUsed s) records pools ≡ (hasRoom (s .pending) noWords (recordsUsed s) records pools && test)) where
+  abbrev after : State
+  after = withPending s (grownAll (s .pending) added)
+
+  by-room : (b : Bool) → cond b (wrote 0 after) (wrote 12 s) ≡ roomOr s b after
+  by-room true = refl
+  by-room false = refl
+
+  pub plain-decides : cond (ready && test) (wrote 0 (withPending s (grownAll (s .pending) added))) (wrote (blockedNumber s) s) ≡ decideEvent s (plain s added) records pools
+  unfolding decideEvent stateAfter
+  plain-decides = by-turn (s .waiting) tells
+    where
+      by-turn : (waiting : Bool) → (not waiting && hasRoom (s .pending) noWords (recordsUsed s) records pools) ≡ ready
+          → cond (ready && test) (wrote 0 after) (wrote (cond waiting 15 12) s) ≡ cond waiting (wrote 15 s) (roomOr s (hasRoom (s .pending) added (recordsUsed s) records pools) after)
+      by-turn true tells = ap (λ (b : Bool). cond (b && test) (wrote 0 after) (wrote 15 s)) (sym tells)
+      by-turn false tells =
+          ap (λ (b : Bool). cond (b && test) (wrote 0 after) (wrote 12 s)) (sym tells)
+          ∙ ap (λ (b : Bool). cond b (wrote 0 after) (wrote 12 s)) (sym apart)
+          ∙ by-room (hasRoom (s .pending) added (recordsUsed s) records pools)

@@ -1,8 +1,0 @@
-use mathlib.Core.Path.{refl}
-use borrow.Author.Needs.{needs}
-use Rattle.terminal.proofs.bintolage_property.Statement.{statement}
-use Rattle.terminal.proofs.bintolage_property.Tie as tie
-
-pub bintolage-property-spec : {M : Type 1} → statement M
-bintolage-property-spec =
-    tie.close (tie.spec (λ c κs. search needs) (λ c κs. search needs) (λ c κs. search needs) (λ c. search needs) (λ c. rw (c .keep .ensures .0, c .keep .ensures .1, c .before .before .before .before .property .ensures .0, c .before .before .before .before .property .ensures .1, c .before .before .before .before .before .before .state-of .ensures) (refl, (refl, refl))))

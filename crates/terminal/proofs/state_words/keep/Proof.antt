@@ -1,8 +1,0 @@
-use Rattle.terminal.specs.WordLaws.{done-words, refused-words}
-use mathlib.Core.Path.{refl}
-use borrow.Author.Needs.{needs}
-use Rattle.terminal.proofs.state_words.keep.Statement.{statement}
-use Rattle.terminal.proofs.state_words.keep.Tie as tie
-
-pub keep-spec : {M : Type 1} → statement M
-keep-spec = tie.close (tie.spec (λ c κs. search needs) (λ c. (refl, done-words _ _ (c .before .if1 .taken) (c .words-of .ensures))) (λ c. (refl, refused-words _ _ (c .if1 .left))))

@@ -1,8 +1,0 @@
-use Rattle.terminal.specs.WordLaws.{taken-words, untaken-words}
-use mathlib.Core.Path.{refl}
-use borrow.Author.Needs.{needs}
-use Rattle.terminal.proofs.state_words.keep_all.Statement.{statement}
-use Rattle.terminal.proofs.state_words.keep_all.Tie as tie
-
-pub keep-all-spec : {M : Type 1} → statement M
-keep-all-spec = tie.close (tie.spec (λ c κs. search needs) (λ c. (refl, taken-words _ _ (c .before .if1 .taken) (c .words-of .ensures))) (λ c. (refl, untaken-words _ _ (c .if1 .left))))

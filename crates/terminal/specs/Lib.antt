@@ -1,4 +1,0 @@
-pub mod Words
-pub mod WordLaws
-pub mod Calls
-pub mod CallLaws

@@ -1,0 +1,3 @@
+pub mod Walks
+pub mod WalkLaws
+pub mod Lone

@@ -1,0 +1,94 @@
+-- A feature on lent memory: its events, finish, the tree that is read, next. That all is accepted is again a test that looks at lengths alone.
+use mathlib.Core.Path.{_≡_, refl, ap, _∙_}
+use mathlib.Core.Bool.{Bool, true, _&&_}
+use mathlib.Core.List.{List, _++_}
+use Prim.Native.Nat.{ℕ}
+use lib.Dec.{eqb}
+use borrow.Author.Tests.{eqb-true}
+use Rattle.laws.specs.Every.{both}
+use Rattle.kinds.specs.declared.event.Event.{Event}
+use Rattle.kinds.specs.declared.geometry.Lent.{Lent}
+use Rattle.store.specs.Lists.{lentOf, recordWith}
+use Rattle.store.specs.Records.{recordsLent, tableGood}
+use Rattle.writing.specs.declared.state.State.{State}
+use Rattle.writing.specs.State.{Mem}
+use Rattle.writing.specs.Calls.{finished, decideFinish, finishCall, renewed, decideNext, nextCall}
+use Rattle.writer_model.specs.Writer.{Writer, afterAll, rootOver, finish, tree, next}
+use Rattle.writer_model.specs.Took.{took-finish, took-next}
+use Rattle.writer_model.specs.Call.{finishC, nextC}
+use Rattle.writer_model.specs.Lengths.{SameLengths, lent-same, call-lengths}
+use Rattle.writer_model.specs.Pairs.{pendingAt}
+use Rattle.writer_model.specs.Rows.{Reached, accepted, row-stands}
+use Rattle.writer_model.specs.Tree.{Holds, tree-read}
+use Rattle.writer_model.specs.Fed.{agrees-self, takes, fedState, fedTo, fedMem, pairsOf, Fed, fed}
+
+abbrev pub finishes : State → ℕ → Lent → List Event → Bool
+finishes s records pools es = takes s records pools es && eqb (decideFinish (fedState s records pools es) records pools .number) 0
+
+abbrev pub finishesIn : State → Mem → List Event → Bool
+finishesIn s k es = finishes s (recordsLent (k .table)) (lentOf (k .pools)) es
+
+-- the memory that finish leaves, and the one that next leaves
+abbrev pub finishedMem : State → Mem → List Event → Mem
+finishedMem s k es = finishCall (fedTo s k es) (fedMem s k es) .mem
+
+abbrev pub nextMem : State → Mem → List Event → Mem
+nextMem s k es = nextCall (finished (fedTo s k es)) (finishedMem s k es) .mem
+
+-- only the lengths count
+pub finishes-same : (s : State) (es : List Event) (k k′ : Mem) → SameLengths k k′ → finishesIn s k es ≡ true → finishesIn s k′ es ≡ true
+finishes-same s es k k′ n h = rw (n .table, lent-same k k′ n) h
+
+pub whole-same : (k k′ : Mem) → SameLengths k k′ → tableGood (k .table) ≡ true → tableGood (k′ .table) ≡ true
+whole-same k k′ n h = rw (n .table) h
+
+module _ (s : State) (k : Mem) (w : Writer) (l : List ℕ) (es : List Event) (ok : finishesIn s k es ≡ true) (r : Reached s k w l) where
+  abbrev pub end : State
+  end = fedTo s k es
+
+  abbrev pub left : Mem
+  left = fedMem s k es
+
+  so-far : Fed s k w l es
+  so-far = fed es s k w l (both _ _ ok .0) r
+
+  pub done : finishCall end left .wrote .number ≡ 0
+  unfolding finishCall
+  done = rw (so-far .lengths .table, lent-same k left (so-far .lengths)) (eqb-true _ 0 (both (takes s (recordsLent (k .table)) (lentOf (k .pools)) es) _ ok .1))
+
+  lengths : SameLengths k (finishedMem s k es)
+  lengths =
+      let n = call-lengths end left finishC done in
+      record { table = n .table ∙ so-far .lengths .table; pools = λ m. n .pools m ∙ so-far .lengths .pools m }
+
+  pub finished-is : finishCall end left .wrote .state ≡ finished end
+  unfolding finishCall
+  finished-is = ap (λ r. r .state) (took-finish end left done .is)
+
+  pub finish-reached : Reached (finished end) (finishedMem s k es) (finish (afterAll w es)) (l ++ pairsOf es)
+  finish-reached = rw finished-is at (accepted left finishC (agrees-self end left) done (so-far .reached))
+
+  -- the tree is read from the memory that finish leaves
+  pub tree-left : tableGood (k .table) ≡ true → Holds (recordWith (finishedMem s k es .table) (finishedMem s k es .pools)) 0 (tree (afterAll w es))
+  unfolding finished finish
+  tree-left whole =
+      let v : Writer = afterAll w es in
+      tree-read (finished end) (finishedMem s k es) (finish v) (row-stands finish-reached) (rootOver v (v .parts)) refl (whole-same k _ lengths whole)
+
+  -- after the feature is finished, the next one begins
+  module _ (goes : decideNext (finished end) (recordsLent (k .table)) (lentOf (k .pools)) .number ≡ 0) where
+    pub goes-on : nextCall (finished end) (finishedMem s k es) .wrote .number ≡ 0
+    unfolding nextCall
+    goes-on = rw (lengths .table, lent-same k (finishedMem s k es) lengths) goes
+
+    pub renewed-is : nextCall (finished end) (finishedMem s k es) .wrote .state ≡ renewed (finished end)
+    unfolding nextCall
+    renewed-is = ap (λ r. r .state) (took-next (finished end) (finishedMem s k es) goes-on .is)
+
+    pub next-reached : Reached (renewed (finished end)) (nextMem s k es) (next (finish (afterAll w es))) (pendingAt (finished end .pending .xy) (finishedMem s k es .pools .xy))
+    next-reached = rw renewed-is at (accepted (finishedMem s k es) nextC (agrees-self (finished end) (finishedMem s k es)) goes-on finish-reached)
+
+    pub next-lengths : SameLengths k (nextMem s k es)
+    next-lengths =
+        let n = call-lengths (finished end) (finishedMem s k es) nextC goes-on in
+        record { table = n .table ∙ lengths .table; pools = λ m. n .pools m ∙ lengths .pools m }

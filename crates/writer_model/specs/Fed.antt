@@ -1,0 +1,106 @@
+-- Events given one after another, in their own bytes: that all are accepted is one test, which looks at no memory but the lent lengths.
+use mathlib.Core.Path.{_≡_, refl, _∙_}
+use mathlib.Core.Bool.{Bool, true, _&&_}
+use mathlib.Core.List.{List, [], _∷_, _++_, append-nil, append-assoc}
+use Prim.Native.Nat.{ℕ}
+use lib.Dec.{ltb, eqb}
+use borrow.Author.Tests.{ltb-true, eqb-true}
+use Rattle.laws.specs.Every.{both}
+use Rattle.kinds.specs.Event.{wellFormed, EventSized}
+use Rattle.kinds.specs.declared.event.Event.{Event}
+use Rattle.kinds.specs.declared.geometry.Lent.{Lent}
+use Rattle.store.specs.Lists.{lentOf}
+use Rattle.store.specs.Log.{events, hear-said}
+use Rattle.store.specs.Records.{recordsLent}
+use Rattle.writing.specs.declared.state.State.{State}
+use Rattle.writing.specs.declared.state.Wrote.{Wrote}
+use Rattle.writing.specs.State.{Mem, Outcome}
+use Rattle.writing.specs.Calls.{askOf, decideEvent, eventWith, eventCall}
+use Rattle.writer_model.specs.Writer.{Writer, after, afterAll}
+use Rattle.writer_model.specs.Stands.{Agrees}
+use Rattle.writer_model.specs.Call.{eventC}
+use Rattle.writer_model.specs.Pairs.{pairOf}
+use Rattle.writer_model.specs.Lengths.{SameLengths, lent-same, event-lengths}
+use Rattle.writer_model.specs.Rows.{Reached, accepted}
+
+pub agrees-self : (s : State) (k : Mem) → Agrees s k k
+agrees-self s k = record { pools = λ n. refl; table = λ i a b. refl }
+
+-- ---- an event that is well-formed, with fields that fit their bytes
+abbrev pub sized : Event → Bool
+sized e =
+    ltb (e .size) 4294967296 && ltb (e .idx) 4294967296 && ltb (e .x) 18446744073709551616 && ltb (e .y) 18446744073709551616
+    && ltb (e .z) 18446744073709551616 && ltb (e .m) 18446744073709551616 && ltb (e .t) 18446744073709551616 && ltb (e .tm) 18446744073709551616
+
+pub sized-is : (e : Event) → sized e ≡ true → EventSized e
+sized-is e h =
+    let tm = both _ (ltb (e .tm) 18446744073709551616) h in
+    let t = both _ (ltb (e .t) 18446744073709551616) (tm .0) in
+    let m = both _ (ltb (e .m) 18446744073709551616) (t .0) in
+    let z = both _ (ltb (e .z) 18446744073709551616) (m .0) in
+    let y = both _ (ltb (e .y) 18446744073709551616) (z .0) in
+    let x = both _ (ltb (e .x) 18446744073709551616) (y .0) in
+    let idx = both (ltb (e .size) 4294967296) (ltb (e .idx) 4294967296) (x .0) in
+    record {
+      size = ltb-true _ _ (idx .0);
+      idx = ltb-true _ _ (idx .1);
+      x = ltb-true _ _ (x .1);
+      y = ltb-true _ _ (y .1);
+      z = ltb-true _ _ (z .1);
+      m = ltb-true _ _ (m .1);
+      t = ltb-true _ _ (t .1);
+      tm = ltb-true _ _ (tm .1);
+    }
+
+-- ---- one event
+abbrev pub given : State → Mem → Event → Outcome
+given s k e = eventWith s (askOf (s .typing) e) e k
+
+pub said-reached : {s : State} {k : Mem} {w : Writer} {l : List ℕ} (m : Mem) (e : Event) → EventSized e → wellFormed e ≡ true → Agrees s k m → given s m e .wrote .number ≡ 0 → Reached s k w l
+    → Reached (given s m e .wrote .state) (given s m e .mem) (after w e) (l ++ pairOf e)
+unfolding eventCall
+said-reached m e fits formed a q r = rw (hear-said e fits formed) at (accepted m (eventC (events .bytes e)) a (rw (hear-said e fits formed) q) r)
+
+-- ---- a row of events, each lent what the last one left; the tests see the numbers of records and words that are lent
+abbrev pub decided : State → ℕ → Lent → Event → Wrote
+decided s records pools e = decideEvent s (askOf (s .typing) e) records pools
+
+abbrev pub takes : State → ℕ → Lent → List Event → Bool
+takes s records pools [] = true
+takes s records pools (e ∷ es) = wellFormed e && sized e && eqb (decided s records pools e .number) 0 && takes (decided s records pools e .state) records pools es
+
+abbrev pub fedState : State → ℕ → Lent → List Event → State
+fedState s records pools [] = s
+fedState s records pools (e ∷ es) = fedState (decided s records pools e .state) records pools es
+
+abbrev pub fedTo : State → Mem → List Event → State
+fedTo s k es = fedState s (recordsLent (k .table)) (lentOf (k .pools)) es
+
+abbrev pub fedMem : State → Mem → List Event → Mem
+fedMem s k [] = k
+fedMem s k (e ∷ es) = fedMem (given s k e .wrote .state) (given s k e .mem) es
+
+abbrev pub pairsOf : List Event → List ℕ
+pairsOf [] = []
+pairsOf (e ∷ es) = pairOf e ++ pairsOf es
+
+pub record Fed (s : State) (k : Mem) (w : Writer) (l : List ℕ) (es : List Event) : Type 0 where
+  pub reached : Reached (fedTo s k es) (fedMem s k es) (afterAll w es) (l ++ pairsOf es)
+  pub lengths : SameLengths k (fedMem s k es)
+
+pub fed : (es : List Event) (s : State) (k : Mem) (w : Writer) (l : List ℕ) → takes s (recordsLent (k .table)) (lentOf (k .pools)) es ≡ true → Reached s k w l → Fed s k w l es
+unfolding afterAll eventWith
+fed [] s k w l h r = record { reached = rw (append-nil l) r; lengths = record { table = refl; pools = λ n. refl } }
+fed (e ∷ es) s k w l h r =
+    let o : Outcome = given s k e in
+    let a = both (wellFormed e && sized e && eqb (o .wrote .number) 0) (takes (o .wrote .state) (recordsLent (k .table)) (lentOf (k .pools)) es) h in
+    let b = both (wellFormed e && sized e) (eqb (o .wrote .number) 0) (a .0) in
+    let c = both (wellFormed e) (sized e) (b .0) in
+    let q : o .wrote .number ≡ 0 = eqb-true _ 0 (b .1) in
+    let n = event-lengths s k e q in
+    let t : takes (o .wrote .state) (recordsLent (o .mem .table)) (lentOf (o .mem .pools)) es ≡ true = rw (n .table, lent-same k (o .mem) n) (a .1) in
+    let f = fed es (o .wrote .state) (o .mem) (after w e) (l ++ pairOf e) t (said-reached k e (sized-is e (c .1)) (c .0) (agrees-self s k) q r) in
+    record {
+      reached = rw (n .table, lent-same k (o .mem) n, append-assoc) at (f .reached);
+      lengths = record { table = f .lengths .table ∙ n .table; pools = λ m. f .lengths .pools m ∙ n .pools m };
+    }

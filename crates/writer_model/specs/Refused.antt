@@ -1,0 +1,108 @@
+-- A refused call changes nothing, and is refused with the number of the lists' writer or for want of room.
+use mathlib.Core.Path.{_≡_, refl, sym, ap, _∙_}
+use mathlib.Core.Bool.{Bool, true, false, cond}
+use Prim.Native.Nat.{ℕ, _+_}
+use lib.Dec.{leb, ltb, eqb}
+use borrow.Author.Tests.{ne-eqb}
+use Rattle.kinds.specs.declared.event.Event.{Event}
+use Rattle.kinds.specs.Event.{Parsed}
+use Rattle.kinds.specs.Event.{WellFormed, Malformed}
+use Rattle.store.specs.Log.{heard}
+use Rattle.writing.specs.declared.state.State.{State}
+use Rattle.writing.specs.declared.state.Wrote.{Wrote}
+use Rattle.writing.specs.declared.set_type.Typed.{Typed}
+use Rattle.writing.specs.declared.set_type.Typed.the-variants.{Set, Mixed}
+use Rattle.writing.specs.declared.ask.Ask.{Ask}
+use Rattle.writing.specs.State.{Mem, Outcome, wrote, settled}
+use Rattle.writing.specs.SetType.{typedNumber}
+use Rattle.writing.specs.Calls.{noWords, askOf, begun, recordsFor, stateAfter, roomOr, decideTyped, decideEvent, eventWith, eventOf, eventCall, finished, decideFinish, finishCall, renewed, decideNext, nextCall}
+use Rattle.writer_model.specs.Writer.{Writer, waits, nay}
+use Rattle.writer_model.specs.Stands.{Stands}
+use Rattle.writer_model.specs.Took.{room}
+use Rattle.writer_model.specs.Asked.{askBy}
+use Rattle.writer_model.specs.Call.{Call, eventC, finishC, nextC, called, nayHeard, nayCall, answer}
+
+-- ---- nothing changes
+pub record Unchanged (s : State) (k : Mem) (o : Outcome) : Type 0 where
+  pub state : o .wrote .state ≡ s
+  pub mem : o .mem ≡ k
+
+settled-refused : (r : Wrote) (s : State) (k after : Mem) → (r .number ≡ 0 → ⊥) → r .state ≡ s → Unchanged s k (settled r k after)
+settled-refused r s k after h e = record { state = e; mem = rw (ne-eqb (r .number) 0 h) }
+
+module _ (s : State) (k : Mem) where
+  room-refused : (b : Bool) (t : State) → (roomOr s b t .number ≡ 0 → ⊥) → roomOr s b t .state ≡ s
+  room-refused true t h = absurd (h refl)
+  room-refused false t h = refl
+
+  turn-refused : (b : Bool) (r : Wrote) → ((r .number ≡ 0 → ⊥) → r .state ≡ s) → (cond b (wrote 15 s) r .number ≡ 0 → ⊥) → cond b (wrote 15 s) r .state ≡ s
+  turn-refused true r f h = refl
+  turn-refused false r f h = f h
+
+  typed-refused : (a : Ask) (b : Bool) (o : Typed) → (decideTyped s a b o .number ≡ 0 → ⊥) → decideTyped s a b o .state ≡ s
+  typed-refused a b Mixed h = refl
+  typed-refused a b (Set g) h = room-refused b (stateAfter s a g) h
+
+  heard-refused : (p : Parsed) → (eventOf s k p .wrote .number ≡ 0 → ⊥) → Unchanged s k (eventOf s k p)
+  unfolding eventWith decideEvent
+  heard-refused Malformed h = record { state = refl; mem = refl }
+  heard-refused (WellFormed e) h =
+      let a : Ask = askOf (s .typing) e in
+      settled-refused _ s k _ h (turn-refused (s .waiting) _ (typed-refused a (room (s .pending) (a .added) (recordsFor s a) k) (a .typed)) h)
+
+  next-refused : (b c : Bool) → (cond b (roomOr s c (renewed s)) (wrote 15 s) .number ≡ 0 → ⊥) → cond b (roomOr s c (renewed s)) (wrote 15 s) .state ≡ s
+  next-refused true c h = room-refused c (renewed s) h
+  next-refused false c h = refl
+
+  pub refused : (c : Call) → (called s k c .wrote .number ≡ 0 → ⊥) → Unchanged s k (called s k c)
+  unfolding eventCall finishCall decideFinish nextCall decideNext
+  refused (eventC bytes) h = heard-refused (heard bytes) h
+  refused finishC h = settled-refused _ s k _ h (turn-refused (s .waiting) _ (room-refused (room (s .pending) noWords (s .parts + 1) k) (finished s)) h)
+  refused nextC h = settled-refused _ s k _ h (next-refused (s .waiting) (room (s .pending) noWords (s .parts + 1) k) h)
+
+-- ---- the numbers
+nay-is : (w : Writer) (e : Event) → nay w e ≡ cond (waits w) 15 (typedNumber (askOf (w .typing) e .typed))
+unfolding nay askOf
+nay-is w e = go (ltb (e .kind) 32) (leb 64 (e .kind)) (eqb (e .kind) 33) (eqb (e .kind) 34) (eqb (e .kind) 35) (eqb (e .kind) 39)
+  where
+    go : (b x i j k l : Bool) → cond (waits w) 15 (cond b (typedNumber (begun (w .typing) e)) 0) ≡ cond (waits w) 15 (typedNumber (askBy (w .typing) e b x i j k l .typed))
+    go true x i j k l = refl
+    go false true i j k l = refl
+    go false false true j k l = refl
+    go false false false true k l = refl
+    go false false false false true l = refl
+    go false false false false false true = refl
+    go false false false false false false = refl
+
+room-number : (s t : State) (b : Bool) → roomOr s b t .number ≡ cond b 0 12
+room-number s t true = refl
+room-number s t false = refl
+
+typed-number : (s : State) (a : Ask) (b r : Bool) (o : Typed) → cond b (wrote 15 s) (decideTyped s a r o) .number ≡ answer (cond b 15 (typedNumber o)) r
+typed-number s a true r o = refl
+typed-number s a false r Mixed = refl
+typed-number s a false r (Set h) = room-number s (stateAfter s a h) r
+
+module _ (s : State) (k : Mem) (w : Writer) (h : Stands s k w) where
+  heard-number : (p : Parsed) → (r : Bool) × (eventOf s k p .wrote .number ≡ answer (nayHeard w p) r)
+  unfolding eventWith decideEvent
+  heard-number Malformed = (true, refl)
+  heard-number (WellFormed e) =
+      let a : Ask = askOf (s .typing) e in
+      let r : Bool = room (s .pending) (a .added) (recordsFor s a) k in
+      let n : nay w e ≡ cond (s .waiting) 15 (typedNumber (a .typed)) = nay-is w e ∙ rw (h .typing, h .waiting) in
+      (r, typed-number s a (s .waiting) r (a .typed) ∙ ap (λ (m : ℕ). answer m r) (sym n))
+
+  turn-number : (b r : Bool) (t : State) → cond b (wrote 15 s) (roomOr s r t) .number ≡ answer (cond b 15 0) r
+  turn-number true r t = refl
+  turn-number false r t = room-number s t r
+
+  wait-number : (b r : Bool) (t : State) → cond b (roomOr s r t) (wrote 15 s) .number ≡ answer (cond b 0 15) r
+  wait-number true r t = room-number s t r
+  wait-number false r t = refl
+
+  pub number-is : (c : Call) → (r : Bool) × (called s k c .wrote .number ≡ answer (nayCall w c) r)
+  unfolding eventCall finishCall decideFinish nextCall decideNext
+  number-is (eventC bytes) = heard-number (heard bytes)
+  number-is finishC = let r : Bool = room (s .pending) noWords (s .parts + 1) k in (r, rw (← (h .waiting)) (turn-number (s .waiting) r (finished s)))
+  number-is nextC = let r : Bool = room (s .pending) noWords (s .parts + 1) k in (r, rw (← (h .waiting)) (wait-number (s .waiting) r (renewed s)))

@@ -1,0 +1,99 @@
+-- What an accepted event leaves: a writer in its turn, with room for all that it uses.
+use mathlib.Core.Path.{_≡_, refl}
+use mathlib.Core.Bool.{Bool, true, false, cond, not, _||_}
+use mathlib.Core.List.{List}
+use Prim.Native.Nat.{ℕ, _+_, _≤_}
+use native.Mathlib.Omega.{arith}
+use lib.Dec.{leb, eqb}
+use Rattle.kinds.specs.Lanes.{Lane, xyL, endsL, zL, mL, tL, tmL, usable, lentIn}
+use Rattle.kinds.specs.Event.{Parsed}
+use Rattle.kinds.specs.Event.{WellFormed, Malformed}
+use Rattle.kinds.specs.declared.geometry.Lent.{Lent}
+use Rattle.store.specs.Lists.{lentOf}
+use Rattle.store.specs.Log.{heard}
+use Rattle.store.specs.Records.{recordsLent}
+use Rattle.writing.specs.declared.state.Typing.{Typing}
+use Rattle.writing.specs.declared.state.Pending.{Pending}
+use Rattle.writing.specs.declared.state.State.{State}
+use Rattle.writing.specs.declared.set_type.Typed.{Typed}
+use Rattle.writing.specs.declared.set_type.Typed.the-variants.{Set, Mixed}
+use Rattle.writing.specs.declared.ask.Ask.{Ask}
+use Rattle.writing.specs.State.{withTyping, withParts, withPending, wordsIn, used, recordsUsed, Mem, wrote}
+use Rattle.writing.specs.Calls.{more, noWords, hasRoom, grownAll, pastAll, askOf, recordsFor, stateAfter, decideTyped, decideEvent, eventWith, eventOf, eventCall}
+use Rattle.writing.specs.Room.{Room, room-of, grown-within}
+
+pub record Ready (s : State) (records : ℕ) (pools : Lent) : Type 0 where
+  pub turn : s .waiting ≡ false
+  pub room : Room (s .pending) noWords (recordsUsed s) records pools
+
+pub same-ready : {s s′ : State} {records records′ : ℕ} {pools pools′ : Lent} → s ≡ s′ → records ≡ records′ → pools ≡ pools′ → Ready s records pools → Ready s′ records′ pools′
+same-ready a b c ready = rw (← a, ← b, ← c) ready
+
+-- a part takes no more words than are pending
+none-or-all : (b : Bool) (n : ℕ) → cond b 0 n ≤ n
+none-or-all true n = omega arith
+none-or-all false n = omega arith
+
+past-within : (p : Pending) (most : Lane → ℕ) → ((n : Lane) → used (wordsIn p n) + more noWords n ≤ most n) → (n : Lane) → used (wordsIn (pastAll p) n) + more noWords n ≤ most n
+unfolding pastAll
+past-within p most h xyL = omega (arith, h xyL, none-or-all (leb (p .xy .count) 0) (p .xy .count))
+past-within p most h endsL = omega (arith, h endsL, none-or-all (leb (p .ends .count) 1) (p .ends .count))
+past-within p most h zL = omega (arith, h zL, none-or-all (leb (p .z .count) 0) (p .z .count))
+past-within p most h mL = omega (arith, h mL, none-or-all (leb (p .m .count) 0) (p .m .count))
+past-within p most h tL = omega (arith, h tL, none-or-all (leb (p .t .count) 0) (p .t .count))
+past-within p most h tmL = omega (arith, h tmL, none-or-all (leb (p .tm .count) 0) (p .tm .count))
+
+none-or-some : (b : Bool) (n : ℕ) → cond b n 0 ≤ n
+none-or-some true n = omega arith
+none-or-some false n = omega arith
+
+module _ (s : State) (a : Ask) (records : ℕ) (pools : Lent) where
+  after-ready : (h : Typing) → s .waiting ≡ false → Room (s .pending) (a .added) (recordsFor s a) records pools → Ready (stateAfter s a h) records pools
+  unfolding stateAfter
+  after-ready h turn room = by-part (a .part) room
+    where
+      grown : Pending
+      grown = grownAll (s .pending) (a .added)
+
+      by-part : (b : Bool) → Room (s .pending) (a .added) (cond b (s .parts + 2) (recordsUsed s)) records pools
+          → Ready (cond b (withParts (withPending (withTyping s h) (pastAll grown)) (s .parts + 1)) (withPending (withTyping s h) grown)) records pools
+      by-part true r =
+          let few = none-or-some (s .waiting || not (eqb (s .parts + 1) 0)) (s .parts + 1 + 1) in
+          record {
+            turn = turn;
+            room = record {
+              table = omega (arith, few, r .table);
+              records-fit = omega (arith, few, r .records-fit);
+              words = past-within grown (lentIn pools) (grown-within (s .pending) (a .added) (lentIn pools) (r .words));
+              fits = past-within grown usable (grown-within (s .pending) (a .added) usable (r .fits));
+            };
+          }
+      by-part false r =
+          record {
+            turn = turn;
+            room = record {
+              table = r .table;
+              records-fit = r .records-fit;
+              words = grown-within (s .pending) (a .added) (lentIn pools) (r .words);
+              fits = grown-within (s .pending) (a .added) usable (r .fits);
+            };
+          }
+
+  decided-ready : decideEvent s a records pools .number ≡ 0 → Ready (decideEvent s a records pools .state) records pools
+  unfolding decideEvent
+  decided-ready ok = by-case (s .waiting) (hasRoom (s .pending) (a .added) (recordsFor s a) records pools) (a .typed) refl refl ok
+    where
+      by-case : (waiting room : Bool) (t : Typed) → s .waiting ≡ waiting → hasRoom (s .pending) (a .added) (recordsFor s a) records pools ≡ room
+          → cond waiting (wrote 15 s) (decideTyped s a room t) .number ≡ 0 → Ready (cond waiting (wrote 15 s) (decideTyped s a room t) .state) records pools
+      by-case true room t turn has ok = absurd (omega arith)
+      by-case false room Mixed turn has ok = absurd (omega arith)
+      by-case false false (Set h) turn has ok = absurd (omega arith)
+      by-case false true (Set h) turn has ok = after-ready h turn (room-of _ _ _ _ _ has)
+
+pub event-ready : (s : State) (k : Mem) (bytes : List ℕ) → eventCall s k bytes .wrote .number ≡ 0 → Ready (eventCall s k bytes .wrote .state) (recordsLent (k .table)) (lentOf (k .pools))
+unfolding eventCall eventWith
+event-ready s k bytes = by-record (heard bytes)
+  where
+    by-record : (p : Parsed) → eventOf s k p .wrote .number ≡ 0 → Ready (eventOf s k p .wrote .state) (recordsLent (k .table)) (lentOf (k .pools))
+    by-record Malformed ok = absurd (omega arith)
+    by-record (WellFormed e) ok = decided-ready s (askOf (s .typing) e) (recordsLent (k .table)) (lentOf (k .pools)) ok
