@@ -7,7 +7,7 @@ use native.Mathlib.Omega.{arith}
 use borrow.Author.Tests.{eq-eqb, ne-eqb}
 use Rattle.kinds.specs.Event.{bitSet}
 use Rattle.runs.specs.declared.took.Took.{Took}
-use Rattle.writing.specs.declared.state.Typing.{Typing}
+use Rattle.asking.specs.declared.typing.Typing.{Typing}
 use Rattle.writing.specs.declared.state.State.{State}
 use Rattle.writing.specs.declared.state.Wrote.{Wrote}
 use Rattle.as_words.specs.Words.{byteOf, typingOf, pendingOf, stateOf, mark, headOf, wordsOfPending, wordsOf, wordsAfter, wordsAfterAll}

@@ -1,11 +1,11 @@
 // A writer's state as words, so that a caller in another language can keep it.
+use asking::typing::Typing;
 use kinds::event::bit_set;
 use kinds::refusal;
+use pending::words::Pending;
+use pending::words::Words;
 use runs::Took;
-use writing::state::Pending;
 use writing::state::State;
-use writing::state::Typing;
-use writing::state::Words;
 use writing::state::Wrote;
 ghost use mathlib.Core.Path.{_≡_};
 ghost use Prim.Native.Nat.{_<_};

@@ -18,8 +18,10 @@ use Rattle.reader.specs.Reading.{readS}
 use Rattle.reader.specs.Examples.{noFlags}
 use Rattle.writing.specs.declared.state.State.{State}
 use Rattle.writing.specs.State.{Mem, Outcome}
-use Rattle.writing.specs.SetType.{setType}
-use Rattle.writing.specs.Calls.{started, eventCall, eventWith, askOf, begun, hasRoom, decideEvent}
+use Rattle.asking.specs.SetType.{setType}
+use Rattle.writing.specs.Calls.{started, eventCall, eventWith, decideEvent}
+use Rattle.asking.specs.Ask.{askOf, begun}
+use Rattle.pending.specs.Room.{hasRoom}
 use Rattle.writer_model.specs.Bench.{polygon, four}
 use Rattle.writer_model.specs.BenchCalls.{blank, b1-called, b2-called}
 use Rattle.writer_model.specs.Example.{again, over, second, second-read}

@@ -17,8 +17,11 @@ use Rattle.store.specs.Records.{recordsLent}
 use Rattle.reader.specs.Examples.{noFlags}
 use Rattle.writing.specs.declared.state.State.{State}
 use Rattle.writing.specs.State.{Mem, Outcome}
-use Rattle.writing.specs.SetType.{setType}
-use Rattle.writing.specs.Calls.{started, askOf, begun, hasRoom, grownAll, pastAll, stateAfter, decideEvent, eventWith, eventCall, finished, decideFinish, renewed, decideNext}
+use Rattle.asking.specs.SetType.{setType}
+use Rattle.writing.specs.Calls.{started, stateAfter, decideEvent, eventWith, eventCall, finished, decideFinish, renewed, decideNext}
+use Rattle.asking.specs.Ask.{askOf, begun}
+use Rattle.pending.specs.Room.{hasRoom}
+use Rattle.pending.specs.Growth.{grownAll, pastAll}
 use Rattle.writer_model.specs.Writer.{Writer, fresh, next}
 use Rattle.writer_model.specs.BenchCalls.{blank}
 use Rattle.writer_model.specs.Lengths.{lent-same, event-lengths}

@@ -14,8 +14,11 @@ use Rattle.event_layout.specs.Event.{eventBytes, eventOf, spareZero, readEvent}
 use Rattle.store.specs.Log.{events, heard}
 use Rattle.writing.specs.declared.state.State.{State}
 use Rattle.writing.specs.State.{Mem, Outcome}
-use Rattle.writing.specs.SetType.{setType}
-use Rattle.writing.specs.Calls.{started, askOf, begun, hasRoom, grownAll, stateAfter, decideEvent, tableAfter, memAfter, eventWith, eventCall}
+use Rattle.asking.specs.SetType.{setType}
+use Rattle.writing.specs.Calls.{started, stateAfter, decideEvent, tableAfter, memAfter, eventWith, eventCall}
+use Rattle.asking.specs.Ask.{askOf, begun}
+use Rattle.pending.specs.Room.{hasRoom}
+use Rattle.pending.specs.Growth.{grownAll}
 use Rattle.runs.specs.Events.{Progress, progress, took, recordOf, recordsIn, eventsFrom, eventsCall}
 use Rattle.writer_model.specs.BenchCalls.{blank}
 use Rattle.writer_model.specs.Fed.{agrees-self}

@@ -8,9 +8,9 @@ use lib.Dec.{eqb}
 use borrow.Author.Tests.{eqb-true}
 use Rattle.laws.specs.Every.{never, both}
 use Rattle.kinds.specs.declared.flags.Flags.{Flags}
-use Rattle.writing.specs.declared.state.Typing.{Typing}
-use Rattle.writing.specs.declared.set_type.Typed.the-variants.{Set, Mixed}
-use Rattle.writing.specs.SetType.{typedNumber, setType}
+use Rattle.asking.specs.declared.typing.Typing.{Typing}
+use Rattle.asking.specs.declared.set_type.Typed.the-variants.{Set, Mixed}
+use Rattle.asking.specs.SetType.{typedNumber, setType}
 use Rattle.writer_model.specs.Writer.{nay}
 use Rattle.geometry.specs.Geometry.{Simple, multiLineString, multiPolygon, simple, Geometry, typeOf}
 use Rattle.geometry.specs.Events.{begins}

@@ -12,9 +12,9 @@ use Rattle.kinds.specs.declared.event.Event.{Event}
 use Rattle.kinds.specs.declared.flags.Flags.{Flags}
 use Rattle.store.specs.Lists.{Rec}
 use Rattle.geometry.specs.Coordinate.{multi, is, or0, bits, coordE}
-use Rattle.writing.specs.declared.state.Typing.{Typing}
-use Rattle.writing.specs.State.{typing}
-use Rattle.writing.specs.Calls.{begun}
+use Rattle.asking.specs.declared.typing.Typing.{Typing}
+use Rattle.asking.specs.SetType.{typing}
+use Rattle.asking.specs.Ask.{begun}
 use Rattle.writer_model.specs.Writer.{Writer, pushed, partOf, finishPart, coordinate, endPushed, lineEnd, polygonEnd, after, afterAll}
 use Rattle.geometry.specs.Geometry.{Coord, Line, Rings}
 use Rattle.geometry.specs.Events.{shown, each, group, seenAs, coordOf, lineOf, triangleOf}

@@ -15,8 +15,8 @@ use Rattle.geometry.specs.Coordinate.{coordE}
 use Rattle.coords.specs.Coords.{taken, coordinateS, pairS, coordsS, betweenS}
 use Rattle.lines.specs.Lines.{stretchS, linesS, flatO, flatS, ringsS, stretchesS, polygonS, multiLineS, triangleAt, trianglesS, triangleS, tinS, pointS}
 use Rattle.reader.specs.Reading.{partsS, spanS, polygonPart, curveOf, curveS, kindS, geometryS, rootS, readS}
-use Rattle.writing.specs.SetType.{unknownType, collected, setType}
-use Rattle.writing.specs.Calls.{begun}
+use Rattle.asking.specs.SetType.{unknownType, collected, setType}
+use Rattle.asking.specs.Ask.{begun}
 use Rattle.writer_model.specs.Writer.{Writer, fresh, longer, partOf, finishPart, coordinate, endPushed, lineEnd, polygonEnd, after, afterAll, nay, finish, tree, next}
 use Rattle.geometry.specs.Geometry.{Coord, Geometry}
 use Rattle.geometry.specs.Events.{eventsOf}

@@ -10,10 +10,9 @@ use Rattle.kinds.specs.Event.{isTaggedType, beginE, endE}
 use Rattle.kinds.specs.declared.event.Event.{Event}
 use Rattle.kinds.specs.declared.flags.Flags.{Flags}
 use Rattle.store.specs.Lists.{Rec}
-use Rattle.writing.specs.declared.state.Typing.{Typing}
-use Rattle.writing.specs.State.{typing}
-use Rattle.writing.specs.SetType.{unknownType, collected, setType}
-use Rattle.writing.specs.Calls.{begun}
+use Rattle.asking.specs.declared.typing.Typing.{Typing}
+use Rattle.asking.specs.SetType.{typing, unknownType, collected, setType}
+use Rattle.asking.specs.Ask.{begun}
 use Rattle.writer_model.specs.Writer.{Writer, longer, partOf, finishPart, endPushed, lineEnd, after, afterAll, tree}
 use Rattle.writer_model.specs.Tree.{Holds}
 use Rattle.geometry.specs.Geometry.{Coord, Line, Simple, point, lineString, multiLineString, tin, triangle, collection, typeOf}

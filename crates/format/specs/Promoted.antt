@@ -10,10 +10,9 @@ use lib.Dec.{eqb}
 use Rattle.kinds.specs.Event.{beginE, endE}
 use Rattle.kinds.specs.declared.flags.Flags.{Flags}
 use Rattle.store.specs.Lists.{Rec}
-use Rattle.writing.specs.declared.state.Typing.{Typing}
-use Rattle.writing.specs.State.{typing}
-use Rattle.writing.specs.SetType.{withMode, unknownType, collected, setType}
-use Rattle.writing.specs.Calls.{begun}
+use Rattle.asking.specs.declared.typing.Typing.{Typing}
+use Rattle.asking.specs.SetType.{typing, withMode, unknownType, collected, setType}
+use Rattle.asking.specs.Ask.{begun}
 use Rattle.writer_model.specs.Writer.{Writer, partOf, finishPart, endPushed, lineEnd, polygonEnd, after, afterAll, tree}
 use Rattle.writer_model.specs.Tree.{Holds}
 use Rattle.geometry.specs.Geometry.{Line, Rings, Simple, lineString, polygon, multiLineString, multiPolygon, typeOf}

@@ -11,11 +11,10 @@ use Rattle.kinds.specs.Event.{beginE, endE}
 use Rattle.kinds.specs.declared.event.Event.{Event}
 use Rattle.kinds.specs.declared.flags.Flags.{Flags}
 use Rattle.store.specs.Lists.{Rec}
-use Rattle.writing.specs.declared.state.Typing.{Typing}
-use Rattle.writing.specs.declared.set_type.Typed.the-variants.{Set}
-use Rattle.writing.specs.State.{typing}
-use Rattle.writing.specs.SetType.{typedNumber, unknownType, collected, setType}
-use Rattle.writing.specs.Calls.{begun}
+use Rattle.asking.specs.declared.typing.Typing.{Typing}
+use Rattle.asking.specs.declared.set_type.Typed.the-variants.{Set}
+use Rattle.asking.specs.SetType.{typing, typedNumber, unknownType, collected, setType}
+use Rattle.asking.specs.Ask.{begun}
 use Rattle.writer_model.specs.Writer.{Writer, fresh, typedTo, partOf, lineEnd, polygonEnd, after, afterAll, nay, finish, tree, next}
 use Rattle.writer_model.specs.Tree.{Holds}
 use Rattle.geometry.specs.Geometry.{Line, Coord, Simple, point, lineString, polygon, multiPoint, multiLineString, multiPolygon, circularString, compoundCurve, curvePolygon, multiCurve, multiSurface, polyhedralSurface, tin, triangle, typeOf}

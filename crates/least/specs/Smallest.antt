@@ -7,7 +7,7 @@ use native.Mathlib.Omega.{arith}
 use Rattle.kinds.specs.declared.flags.Flags.{Flags}
 use Rattle.store.specs.Lists.{Pools, Rec, recordWith}
 use Rattle.reader.specs.Reading.{rootS, readS}
-use Rattle.writing.specs.declared.state.Typing.{Typing}
+use Rattle.asking.specs.declared.typing.Typing.{Typing}
 use Rattle.writer_model.specs.Writer.{tree}
 use Rattle.writer_model.specs.Tree.{Holds}
 use Rattle.geometry.specs.Geometry.{Simple, typeOf}

@@ -13,7 +13,7 @@ use Rattle.laws.specs.Every.{never}
 use Rattle.kinds.specs.declared.flags.Flags.{Flags}
 use Rattle.store.specs.Lists.{Rec}
 use Rattle.geometry.specs.Coordinate.{is}
-use Rattle.writing.specs.declared.state.Typing.{Typing}
+use Rattle.asking.specs.declared.typing.Typing.{Typing}
 use Rattle.writer_model.specs.Writer.{longer, partOf, tree}
 use Rattle.writer_model.specs.Tree.{Holds}
 use Rattle.geometry.specs.Geometry.{Coord, Line, Rings, Simple}

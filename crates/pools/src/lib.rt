@@ -1,11 +1,11 @@
 // What an accepted call changes: one function for each lent slice.
-use writing::ask::Ask;
-use writing::part::part_of;
-use writing::part::root_of;
-use writing::pending::grown_all;
-use writing::pending::used;
+use asking::ask::Ask;
+use pending::growth::grown_all;
+use pending::growth::used;
+use pending::part::part_of;
+use pending::words::Words;
+use writing::root::root_of;
 use writing::state::State;
-use writing::state::Words;
 ghost use mathlib.Core.Path.{_≡_};
 ghost use mathlib.Core.Bool.{true, cond};
 ghost use mathlib.Core.List.{[], _∷_};
@@ -13,9 +13,9 @@ ghost use Prim.Native.Nat.{_+_, _≤_, _<_};
 ghost use lib.ListN.{length};
 ghost use lib.Seq.{sets};
 ghost use Rattle.store.specs.Records.{recordsLent, putRecord};
-ghost use Rattle.writing.specs.State.{used};
+ghost use Rattle.pending.specs.Words.{used};
 ghost use Rattle.writing.specs.Calls.{tableAfter, rootOf, moved};
-ghost use Rattle.writing.specs.Room.{Fits};
+ghost use Rattle.pending.specs.Room.{Fits};
 
 // Part i is record i + 1.
 pub fn finish_part(table: &mut [u8], s: State, a: Ask)

@@ -13,14 +13,17 @@ use Rattle.kinds.specs.declared.event.Event.{Event}
 use Rattle.kinds.specs.declared.geometry.Lent.{Lent}
 use Rattle.store.specs.Log.{heard}
 use Rattle.store.specs.LogLaws.{HeardPair, HeardCoordinate, HeardQuiet}
-use Rattle.writing.specs.declared.ask.Added.{Added}
-use Rattle.writing.specs.declared.ask.Ask.{Ask}
-use Rattle.writing.specs.declared.set_type.Typed.{Typed}
-use Rattle.writing.specs.declared.set_type.Typed.the-variants.{Set}
+use Rattle.asking.specs.declared.ask.Added.{Added}
+use Rattle.asking.specs.declared.ask.Ask.{Ask}
+use Rattle.asking.specs.declared.set_type.Typed.{Typed}
+use Rattle.asking.specs.declared.set_type.Typed.the-variants.{Set}
 use Rattle.writing.specs.declared.state.State.{State}
 use Rattle.writing.specs.declared.state.Wrote.{Wrote}
 use Rattle.writing.specs.State.{withPending, recordsUsed, wrote}
-use Rattle.writing.specs.Calls.{ask, noWords, pairWith, begun, askOf, hasRoom, isReady, grownAll, roomOr, stateAfter, decideEvent}
+use Rattle.asking.specs.Ask.{ask, noWords, pairWith, begun, askOf}
+use Rattle.pending.specs.Room.{hasRoom}
+use Rattle.writing.specs.Calls.{isReady, roomOr, stateAfter, decideEvent}
+use Rattle.pending.specs.Growth.{grownAll}
 
 -- what it asks for
 abbrev pub plain : State → Added → Ask

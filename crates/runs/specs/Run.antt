@@ -17,23 +17,26 @@ use Rattle.store.specs.Lists.{poolsOf, lentOf}
 use Rattle.store.specs.Log.{heard}
 use Rattle.store.specs.LogLaws.{HeardPair, HeardCoordinate, HeardQuiet}
 use Rattle.store.specs.Records.{recordsLent}
-use Rattle.writing.specs.declared.ask.Added.{Added}
-use Rattle.writing.specs.declared.ask.Ask.{Ask}
+use Rattle.asking.specs.declared.ask.Added.{Added}
+use Rattle.asking.specs.declared.ask.Ask.{Ask}
 use Rattle.runs.specs.declared.run.Reached.{Reached}
 use Rattle.runs.specs.declared.run.Stop.{Stop}
 use Rattle.runs.specs.declared.run.Stop.the-variants.{End, Blocked, Other, Malformed as Unheard}
-use Rattle.writing.specs.declared.state.Pending.{Pending}
+use Rattle.pending.specs.declared.words.Pending.{Pending}
 use Rattle.writing.specs.declared.state.State.{State}
-use Rattle.writing.specs.declared.state.Words.{Words}
+use Rattle.pending.specs.declared.words.Words.{Words}
 use Rattle.writing.specs.declared.state.Wrote.{Wrote}
-use Rattle.writing.specs.State.{words, withPending, used, recordsUsed, Mem, memOf, Outcome, outcome, settled, wrote}
-use Rattle.writing.specs.Calls.{noWords, pairWith, roomIn, hasRoom, isReady, grown, grownAll, grownValues, askOf, decideEvent, tableAfter, memAfter, eventWith, eventCall}
+use Rattle.pending.specs.Words.{words, used}
+use Rattle.writing.specs.State.{withPending, recordsUsed, Mem, memOf, Outcome, outcome, settled, wrote}
+use Rattle.asking.specs.Ask.{noWords, pairWith, askOf}
+use Rattle.pending.specs.Room.{roomIn, hasRoom, and-true, room-tested, room-apart, Room, ValuesFit, room-in}
+use Rattle.writing.specs.Calls.{isReady, decideEvent, tableAfter, memAfter, eventWith, eventCall}
+use Rattle.pending.specs.Growth.{grown, grownAll, grownValues}
 use Rattle.writing.specs.Ends.{well-formed}
 use Rattle.runs.specs.Events.{recordOf, recordsIn, eventsFrom, went-on}
 use Rattle.runs.specs.Plain.{plain, blockedNumber, PlainEvent, pair-plain, coordinate-plain, quiet-plain, plain-decides}
 use Rattle.writing.specs.Ready.{Ready, same-ready, event-ready}
-use Rattle.writing.specs.Apart.{and-true, room-tested, room-apart, is-ready}
-use Rattle.writing.specs.Room.{Room, ValuesFit, room-in}
+use Rattle.writing.specs.Apart.{is-ready}
 
 -- ---- the lent memory as a run has it: the pools of pairs and values, apart from the table and the ends
 pub record Values : Type 0 where

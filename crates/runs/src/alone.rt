@@ -2,16 +2,17 @@
 use crate::blocked::blocked_number;
 use kinds::refusal;
 use kinds::usable;
-use writing::room::lane_room;
+use pending::room::lane_room;
+use pending::words::Words;
 use writing::state::State;
-use writing::state::Words;
 use writing::state::Wrote;
 ghost use mathlib.Core.Path.{_≡_};
 ghost use mathlib.Core.Bool.{cond, _&&_};
 ghost use mathlib.Core.List.{[], _∷_};
 ghost use lib.ListN.{length};
 ghost use lib.Seq.{sets};
-ghost use Rattle.writing.specs.State.{used, withPending, wrote};
+ghost use Rattle.pending.specs.Words.{used};
+ghost use Rattle.writing.specs.State.{withPending, wrote};
 ghost use Rattle.runs.specs.Plain.{blockedNumber};
 ghost use Rattle.runs.specs.Run.{pairRoom, withPair};
 

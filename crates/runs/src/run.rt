@@ -1,22 +1,22 @@
 // A run of plain events: pairs, coordinates, and begins that set no type. They change no typing and finish no part, so that
 // each is a test of room and a word or two.
+use asking::ask::Added;
+use asking::ask::pair_with;
 use kinds::event::Event;
 use kinds::event::Heard;
 use kinds::usable;
-use writing::ask::Added;
-use writing::ask::pair_with;
-use writing::pending::grown_values;
-use writing::room::lane_room;
-use writing::state::Pending;
-use writing::state::Words;
+use pending::growth::grown_values;
+use pending::room::lane_room;
+use pending::words::Pending;
+use pending::words::Words;
 ghost use mathlib.Core.Path.{_≡_};
 ghost use mathlib.Core.Bool.{true, cond};
 ghost use mathlib.Core.List.{[], _∷_};
 ghost use Prim.Native.Nat.{_/_, _≤_};
 ghost use lib.ListN.{length};
 ghost use lib.Seq.{sets};
-ghost use Rattle.writing.specs.State.{used};
-ghost use Rattle.writing.specs.Calls.{grownValues};
+ghost use Rattle.pending.specs.Words.{used};
+ghost use Rattle.pending.specs.Growth.{grownValues};
 ghost use Rattle.runs.specs.Run.{valuesRoom, valuesOf, Ran};
 
 // Why a run goes no further.

@@ -16,7 +16,7 @@ use Rattle.store.specs.Log.{heard}
 use Rattle.store.specs.LogLaws.{not-whole}
 use Rattle.store.specs.Records.{recordsLent}
 use Rattle.runs.specs.declared.took.Took.{Took}
-use Rattle.writing.specs.declared.state.Pending.{Pending}
+use Rattle.pending.specs.declared.words.Pending.{Pending}
 use Rattle.writing.specs.declared.state.State.{State}
 use Rattle.writing.specs.declared.state.Wrote.{Wrote}
 use Rattle.writing.specs.State.{withPending, Mem, Outcome, outcome, wrote}

@@ -12,13 +12,15 @@ use Rattle.kinds.specs.declared.event.Event.{Event}
 use Rattle.store.specs.Lists.{poolsOf, lentOf}
 use Rattle.store.specs.Log.{heard}
 use Rattle.store.specs.Records.{recordsLent}
-use Rattle.writing.specs.declared.ask.Ask.{Ask}
-use Rattle.writing.specs.declared.set_type.Typed.{Typed}
+use Rattle.asking.specs.declared.ask.Ask.{Ask}
+use Rattle.asking.specs.declared.set_type.Typed.{Typed}
 use Rattle.writing.specs.declared.state.State.{State}
 use Rattle.writing.specs.declared.state.Wrote.{Wrote}
-use Rattle.writing.specs.State.{used, memOf, outcome, settled}
-use Rattle.writing.specs.Calls.{endIf, ask, askOf, gives, isReady, tableAfter, memAfter, eventWith, eventCall}
-use Rattle.writing.specs.Other.{OnlyEnds, decideOther, other-adds, other-decides}
+use Rattle.pending.specs.Words.{used}
+use Rattle.writing.specs.State.{memOf, outcome, settled}
+use Rattle.asking.specs.Ask.{endIf, ask, askOf, OnlyEnds, other-adds}
+use Rattle.writing.specs.Calls.{gives, isReady, tableAfter, memAfter, eventWith, eventCall}
+use Rattle.writing.specs.Other.{decideOther, other-decides}
 use Rattle.writing.specs.Ends.{well-formed}
 
 all-or-none : (b : Bool) (table table′ xy ends ends′ z m t tm : List ℕ) → memOf (cond b table′ table) xy (cond b ends′ ends) z m t tm ≡ cond b (memOf table′ xy ends′ z m t tm) (memOf table xy ends z m t tm)

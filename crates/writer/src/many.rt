@@ -6,7 +6,7 @@ use runs::Stop;
 use runs::Took;
 use runs::blocked_number;
 use runs::take_plain;
-use writing::room::is_ready;
+use writing::ready::is_ready;
 use writing::state::State;
 ghost use mathlib.Core.Path.{_≡_};
 ghost use Rattle.writing.specs.State.{memOf};

@@ -1,9 +1,9 @@
 // A begin that sets a type, or an end: what it asks for is decided, and done to the table and the ends.
+use asking::ask::ask_of;
 use kinds::event::Event;
 use kinds::refusal;
-use writing::ask::ask_of;
+use pending::growth::end_of;
 use writing::decide::decide_other;
-use writing::pending::end_of;
 use writing::state::State;
 use writing::state::Wrote;
 ghost use mathlib.Core.Path.{_≡_};
@@ -14,9 +14,10 @@ ghost use lib.ListN.{length};
 ghost use lib.Seq.{sets};
 ghost use Rattle.kinds.specs.Lanes.{endsL};
 ghost use Rattle.store.specs.Records.{recordsLent};
-ghost use Rattle.writing.specs.State.{used};
-ghost use Rattle.writing.specs.Calls.{noWords, askOf, gives, tableAfter};
-ghost use Rattle.writing.specs.Room.{Fits};
+ghost use Rattle.pending.specs.Words.{used};
+ghost use Rattle.asking.specs.Ask.{noWords, askOf};
+ghost use Rattle.writing.specs.Calls.{gives, tableAfter};
+ghost use Rattle.pending.specs.Room.{Fits};
 ghost use Rattle.writing.specs.Other.{decideOther};
 
 pub fn take_other(s: State, ready: bool, e: Event, table: &mut [u8], ends: &mut [u32]) -> Wrote

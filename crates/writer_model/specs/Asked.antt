@@ -7,15 +7,17 @@ use lib.ListN.{length}
 use lib.Dec.{leb, ltb, eqb}
 use Rattle.laws.specs.Every.{never}
 use Rattle.kinds.specs.declared.event.Event.{Event}
-use Rattle.writing.specs.declared.state.Typing.{Typing}
+use Rattle.asking.specs.declared.typing.Typing.{Typing}
 use Rattle.writing.specs.declared.state.State.{State}
-use Rattle.writing.specs.declared.set_type.Typed.{Typed}
-use Rattle.writing.specs.declared.set_type.Typed.the-variants.{Set, Mixed}
-use Rattle.writing.specs.declared.ask.Added.{Added}
-use Rattle.writing.specs.declared.ask.Ask.{Ask}
-use Rattle.writing.specs.State.{words, pendingOf, fresh, withTyping, withPending, poolIn, poolsBy}
-use Rattle.writing.specs.SetType.{withMode}
-use Rattle.writing.specs.Calls.{noWords, endIf as endAdded, pairWith, ask, askOf, begun, calmed, pushesEnd, collects, gives}
+use Rattle.asking.specs.declared.set_type.Typed.{Typed}
+use Rattle.asking.specs.declared.set_type.Typed.the-variants.{Set, Mixed}
+use Rattle.asking.specs.declared.ask.Added.{Added}
+use Rattle.asking.specs.declared.ask.Ask.{Ask}
+use Rattle.pending.specs.Words.{words, pendingOf}
+use Rattle.writing.specs.State.{fresh, withTyping, withPending, poolIn, poolsBy}
+use Rattle.asking.specs.SetType.{withMode}
+use Rattle.asking.specs.Ask.{noWords, pairWith, ask, askOf, begun, calmed, pushesEnd, collects, endIf as endAdded}
+use Rattle.writing.specs.Calls.{gives}
 use Rattle.writer_model.specs.Writer.{Writer, retyped, holding, finishPart, partIf, typedTo, pushed, coordinate, endPushed, endIf, calm, lineEnd, polygonEnd, after}
 
 -- what an event asks for, by the tests of its kind: begin, pair, and the ends of Point, LineString, Polygon and GeometryCollection

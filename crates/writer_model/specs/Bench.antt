@@ -8,8 +8,8 @@ use lib.ListN.{length}
 use Rattle.kinds.specs.Event.{beginE, endE, xyE}
 use Rattle.kinds.specs.declared.event.Event.{Event}
 use Rattle.store.specs.Lists.{Rec}
-use Rattle.writing.specs.SetType.{setType, unknownType, collected}
-use Rattle.writing.specs.Calls.{begun}
+use Rattle.asking.specs.SetType.{setType, unknownType, collected}
+use Rattle.asking.specs.Ask.{begun}
 use Rattle.writer_model.specs.Writer.{fresh, longer, partOf, finishPart, coordinate, endPushed, lineEnd, polygonEnd, after, afterAll, nay, tree}
 
 -- ---- events of lines and polygons; pairs are numbered from zero in each line

@@ -13,8 +13,11 @@ use Rattle.store.specs.Lists.{Rec, poolsOf, recordWith}
 use Rattle.store.specs.Log.{events, hear-said}
 use Rattle.store.specs.Records.{tableGood}
 use Rattle.writing.specs.State.{Mem, memory}
-use Rattle.writing.specs.SetType.{setType, unknownType, collected}
-use Rattle.writing.specs.Calls.{started, askOf, begun, hasRoom, grownAll, pastAll, stateAfter, decideEvent, eventWith, eventCall, decideFinish}
+use Rattle.asking.specs.SetType.{setType, unknownType, collected}
+use Rattle.writing.specs.Calls.{started, stateAfter, decideEvent, eventWith, eventCall, decideFinish}
+use Rattle.asking.specs.Ask.{askOf, begun}
+use Rattle.pending.specs.Room.{hasRoom}
+use Rattle.pending.specs.Growth.{grownAll, pastAll}
 use Rattle.writer_model.specs.Writer.{fresh}
 use Rattle.writer_model.specs.Bench.{line, lines, polygon, two, three, four, treeFrom, rec, root, b1, b2, b3, b4, b5, b7, b8, b9}
 use Rattle.writer_model.specs.Rows.{start}

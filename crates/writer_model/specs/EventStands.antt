@@ -11,15 +11,18 @@ use Rattle.kinds.specs.declared.geometry.Geometry.{Geometry}
 use Rattle.store.specs.Lists.{Pools}
 use Rattle.store.specs.Records.{recordsLent, putRecord}
 use Rattle.store.specs.RecordLaws.{put-same, put-other}
-use Rattle.writing.specs.declared.state.Typing.{Typing}
-use Rattle.writing.specs.declared.state.Pending.{Pending}
+use Rattle.asking.specs.declared.typing.Typing.{Typing}
+use Rattle.pending.specs.declared.words.Pending.{Pending}
 use Rattle.writing.specs.declared.state.State.{State}
-use Rattle.writing.specs.declared.set_type.Typed.{Typed}
-use Rattle.writing.specs.declared.set_type.Typed.the-variants.{Set}
-use Rattle.writing.specs.declared.ask.Added.{Added}
-use Rattle.writing.specs.declared.ask.Ask.{Ask}
-use Rattle.writing.specs.State.{wordsIn, used, poolIn, poolsBy, Mem, memory}
-use Rattle.writing.specs.Calls.{ask, askOf, addsTo, valuesOf, gives, atOnce, more, grown, grownAll, omitted, past, pastAll, partOf as partAt, recordsFor, stateAfter, tableAfter, poolAfter, memAfter, eventWith}
+use Rattle.asking.specs.declared.set_type.Typed.{Typed}
+use Rattle.asking.specs.declared.set_type.Typed.the-variants.{Set}
+use Rattle.asking.specs.declared.ask.Added.{Added}
+use Rattle.asking.specs.declared.ask.Ask.{Ask}
+use Rattle.pending.specs.Words.{wordsIn, used}
+use Rattle.writing.specs.State.{poolIn, poolsBy, Mem, memory}
+use Rattle.asking.specs.Ask.{ask, askOf, addsTo}
+use Rattle.writing.specs.Calls.{valuesOf, gives, recordsFor, stateAfter, tableAfter, poolAfter, memAfter, eventWith}
+use Rattle.pending.specs.Growth.{atOnce, more, grown, grownAll, omitted, past, pastAll, partOf as partAt}
 use Rattle.writer_model.specs.Writer.{Writer, partOf, finishPart, after}
 use Rattle.writer_model.specs.Laid.{wordsOf, laid, laid-snoc}
 use Rattle.writer_model.specs.Each.{Each, each-snoc}

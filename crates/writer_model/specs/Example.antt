@@ -14,9 +14,13 @@ use Rattle.store.specs.Lists.{poolsOf, lentOf, recordWith}
 use Rattle.store.specs.Log.{events}
 use Rattle.store.specs.Records.{recordsLent}
 use Rattle.writing.specs.declared.state.State.{State}
-use Rattle.writing.specs.State.{words, Mem, memory}
-use Rattle.writing.specs.SetType.{setType, collected}
-use Rattle.writing.specs.Calls.{started, askOf, begun, hasRoom, grownAll, pastAll, stateAfter, decideEvent, finished, decideFinish, renewed, decideNext}
+use Rattle.pending.specs.Words.{words}
+use Rattle.writing.specs.State.{Mem, memory}
+use Rattle.asking.specs.SetType.{setType, collected}
+use Rattle.writing.specs.Calls.{started, stateAfter, decideEvent, finished, decideFinish, renewed, decideNext}
+use Rattle.asking.specs.Ask.{askOf, begun}
+use Rattle.pending.specs.Room.{hasRoom}
+use Rattle.pending.specs.Growth.{grownAll, pastAll}
 use Rattle.writer_model.specs.Writer.{Writer, fresh, longer, partOf, finishPart, coordinate, after, afterAll, finish, tree, next}
 use Rattle.writer_model.specs.Bench.{rec, root}
 use Rattle.writer_model.specs.Lanes.{words-by}

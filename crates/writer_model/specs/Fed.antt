@@ -15,7 +15,8 @@ use Rattle.store.specs.Records.{recordsLent}
 use Rattle.writing.specs.declared.state.State.{State}
 use Rattle.writing.specs.declared.state.Wrote.{Wrote}
 use Rattle.writing.specs.State.{Mem, Outcome}
-use Rattle.writing.specs.Calls.{askOf, decideEvent, eventWith, eventCall}
+use Rattle.asking.specs.Ask.{askOf}
+use Rattle.writing.specs.Calls.{decideEvent, eventWith, eventCall}
 use Rattle.writer_model.specs.Writer.{Writer, after, afterAll}
 use Rattle.writer_model.specs.Stands.{Agrees}
 use Rattle.writer_model.specs.Call.{eventC}

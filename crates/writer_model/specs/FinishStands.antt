@@ -14,10 +14,13 @@ use Rattle.kinds.specs.declared.geometry.Span.the-variants.{Absent}
 use Rattle.store.specs.Lists.{Pools, Rec}
 use Rattle.store.specs.Records.{recordIn, recordsLent, putRecord}
 use Rattle.store.specs.RecordLaws.{put-same, put-other}
-use Rattle.writing.specs.declared.state.Typing.{Typing}
+use Rattle.asking.specs.declared.typing.Typing.{Typing}
 use Rattle.writing.specs.declared.state.State.{State}
-use Rattle.writing.specs.State.{wordsIn, withWaiting, withPending, Mem, memory}
-use Rattle.writing.specs.Calls.{noWords, omitted, past, pastAll, partOf as partAt, rootOver as rootAt, finished, rootOf, finishCall}
+use Rattle.pending.specs.Words.{wordsIn}
+use Rattle.writing.specs.State.{withWaiting, withPending, Mem, memory}
+use Rattle.asking.specs.Ask.{noWords}
+use Rattle.pending.specs.Growth.{omitted, past, pastAll, partOf as partAt, rootOver as rootAt}
+use Rattle.writing.specs.Calls.{finished, rootOf, finishCall}
 use Rattle.writer_model.specs.Writer.{Writer, writer, rootOver, finish}
 use Rattle.writer_model.specs.Laid.{wordsOf, joined}
 use Rattle.writer_model.specs.Lanes.{words-by, none-by}

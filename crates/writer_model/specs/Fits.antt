@@ -4,9 +4,10 @@ use Prim.Native.Nat.{_+_, _≤_}
 use native.Mathlib.Omega.{arith}
 use lib.ListN.{length}
 use Rattle.kinds.specs.Lanes.{Lane, xyL, endsL, zL, mL, tL, tmL, usable}
-use Rattle.writing.specs.declared.state.Words.{Words}
+use Rattle.pending.specs.declared.words.Words.{Words}
 use Rattle.writing.specs.declared.state.State.{State}
-use Rattle.writing.specs.State.{words, wordsIn, pendingOf, withTyping, withWaiting, withParts, withPending, poolIn, Mem}
+use Rattle.pending.specs.Words.{words, wordsIn, pendingOf}
+use Rattle.writing.specs.State.{withTyping, withWaiting, withParts, withPending, poolIn, Mem}
 use Rattle.writer_model.specs.Writer.{Writer, waits}
 use Rattle.writer_model.specs.Laid.{laid}
 use Rattle.writer_model.specs.Stands.{Stands}

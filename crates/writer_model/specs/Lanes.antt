@@ -5,8 +5,9 @@ use Prim.Native.Nat.{ℕ}
 use lib.ListN.{length}
 use Rattle.kinds.specs.Lanes.{Lane, xyL, endsL, zL, mL, tL, tmL, lentIn}
 use Rattle.store.specs.Lists.{Pools, lentOf}
-use Rattle.writing.specs.declared.state.Words.{Words}
-use Rattle.writing.specs.State.{wordsIn, pendingOf, poolIn, poolsBy}
+use Rattle.pending.specs.declared.words.Words.{Words}
+use Rattle.pending.specs.Words.{wordsIn, pendingOf}
+use Rattle.writing.specs.State.{poolIn, poolsBy}
 use Rattle.writer_model.specs.Writer.{noLists}
 
 pub words-by : (f : Lane → Words) (n : Lane) → wordsIn (pendingOf f) n ≡ f n

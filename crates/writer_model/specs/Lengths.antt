@@ -14,11 +14,14 @@ use Rattle.store.specs.Lists.{lentOf, stretch-length}
 use Rattle.store.specs.Log.{heard}
 use Rattle.store.specs.RecordLaws.{put-length}
 use Rattle.writing.specs.declared.state.State.{State}
-use Rattle.writing.specs.declared.set_type.Typed.{Typed}
-use Rattle.writing.specs.declared.ask.Added.{Added}
-use Rattle.writing.specs.declared.ask.Ask.{Ask}
-use Rattle.writing.specs.State.{wordsIn, used, poolIn, Mem}
-use Rattle.writing.specs.Calls.{ask, askOf, gives, grownAll, partOf, tableAfter, poolAfter, memAfter, eventWith, eventOf, eventCall, rootOf, finishCall, moved, poolMoved, nextCall}
+use Rattle.asking.specs.declared.set_type.Typed.{Typed}
+use Rattle.asking.specs.declared.ask.Added.{Added}
+use Rattle.asking.specs.declared.ask.Ask.{Ask}
+use Rattle.pending.specs.Words.{wordsIn, used}
+use Rattle.writing.specs.State.{poolIn, Mem}
+use Rattle.asking.specs.Ask.{ask, askOf}
+use Rattle.writing.specs.Calls.{gives, tableAfter, poolAfter, memAfter, eventWith, eventOf, eventCall, rootOf, finishCall, moved, poolMoved, nextCall}
+use Rattle.pending.specs.Growth.{grownAll, partOf}
 use Rattle.writer_model.specs.Lanes.{pool-by}
 use Rattle.writer_model.specs.Took.{took-event, took-finish, took-next}
 use Rattle.writer_model.specs.Call.{Call, eventC, finishC, nextC, called}

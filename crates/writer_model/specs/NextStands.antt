@@ -2,8 +2,10 @@
 use mathlib.Core.Path.{_≡_, refl}
 use native.Mathlib.Omega.{arith}
 use Rattle.writing.specs.declared.state.State.{State}
-use Rattle.writing.specs.State.{wordsIn, Mem}
-use Rattle.writing.specs.Calls.{fronted, renewed, poolMoved, nextCall}
+use Rattle.pending.specs.Words.{wordsIn}
+use Rattle.writing.specs.State.{Mem}
+use Rattle.pending.specs.Growth.{fronted}
+use Rattle.writing.specs.Calls.{renewed, poolMoved, nextCall}
 use Rattle.writer_model.specs.Writer.{Writer, next}
 use Rattle.writer_model.specs.Lanes.{words-by, pool-by}
 use Rattle.writer_model.specs.Stands.{Stands}

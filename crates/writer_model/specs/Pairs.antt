@@ -12,15 +12,16 @@ use Rattle.kinds.specs.Lanes.{xyL}
 use Rattle.kinds.specs.declared.event.Event.{Event}
 use Rattle.store.specs.Lists.{Rec, seen}
 use Rattle.store.specs.Records.{recordIn}
-use Rattle.writing.specs.declared.state.Typing.{Typing}
-use Rattle.writing.specs.declared.state.Words.{Words}
+use Rattle.asking.specs.declared.typing.Typing.{Typing}
+use Rattle.pending.specs.declared.words.Words.{Words}
 use Rattle.writing.specs.declared.state.State.{State}
-use Rattle.writing.specs.declared.set_type.Typed.{Typed}
-use Rattle.writing.specs.declared.set_type.Typed.the-variants.{Set}
-use Rattle.writing.specs.declared.ask.Added.{Added}
-use Rattle.writing.specs.declared.ask.Ask.{Ask}
+use Rattle.asking.specs.declared.set_type.Typed.{Typed}
+use Rattle.asking.specs.declared.set_type.Typed.the-variants.{Set}
+use Rattle.asking.specs.declared.ask.Added.{Added}
+use Rattle.asking.specs.declared.ask.Ask.{Ask}
 use Rattle.writing.specs.State.{Mem}
-use Rattle.writing.specs.Calls.{ask, askOf, gives}
+use Rattle.asking.specs.Ask.{ask, askOf}
+use Rattle.writing.specs.Calls.{gives}
 use Rattle.writer_model.specs.Writer.{Writer, partOf, finishPart, after, finish, next, rootOver, leftBy, isThere}
 use Rattle.writer_model.specs.Laid.{wordsOf, joined, rooted, laid, laid-snoc}
 use Rattle.writer_model.specs.Each.{Each}

@@ -11,10 +11,11 @@ use Rattle.kinds.specs.declared.geometry.Judged.the-variants.{Good}
 use Rattle.store.specs.Records.{recordIn}
 use Rattle.store.specs.RecordLaws.{InPool, InTable}
 use Rattle.store.specs.Lists.{Pools, listsOf}
-use Rattle.writing.specs.declared.state.Pending.{Pending}
+use Rattle.pending.specs.declared.words.Pending.{Pending}
 use Rattle.writing.specs.declared.state.State.{State}
-use Rattle.writing.specs.State.{wordsIn, poolIn, memory}
-use Rattle.writing.specs.Calls.{omitted, past, pastAll, partOf as partAt}
+use Rattle.pending.specs.Words.{wordsIn}
+use Rattle.writing.specs.State.{poolIn, memory}
+use Rattle.pending.specs.Growth.{omitted, past, pastAll, partOf as partAt}
 use Rattle.writer_model.specs.Writer.{Writer, partOf}
 use Rattle.writer_model.specs.Laid.{wordsOf}
 use Rattle.writer_model.specs.Lanes.{words-by}

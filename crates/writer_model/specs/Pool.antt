@@ -14,9 +14,10 @@ use Rattle.kinds.specs.declared.geometry.Span.{Span}
 use Rattle.kinds.specs.declared.geometry.Span.the-variants.{Absent}
 use Rattle.store.specs.RecordLaws.{InPool}
 use Rattle.store.specs.Lists.{listOf, stretch-length}
-use Rattle.writing.specs.declared.state.Words.{Words}
-use Rattle.writing.specs.State.{used}
-use Rattle.writing.specs.Calls.{grown, listed, shown, past, fronted, moved}
+use Rattle.pending.specs.declared.words.Words.{Words}
+use Rattle.pending.specs.Words.{used}
+use Rattle.pending.specs.Growth.{grown, listed, shown, past, fronted}
+use Rattle.writing.specs.Calls.{moved}
 use Rattle.writer_model.specs.Writer.{longer}
 use Rattle.writer_model.specs.Stretches.{stretch-longer}
 use Rattle.writer_model.specs.Stands.{Lies}

@@ -6,13 +6,14 @@ use native.Mathlib.Omega.{arith}
 use Rattle.kinds.specs.Event.{Parsed}
 use Rattle.kinds.specs.Event.{WellFormed, Malformed}
 use Rattle.store.specs.Log.{heard}
-use Rattle.writing.specs.declared.state.Typing.{Typing}
+use Rattle.asking.specs.declared.typing.Typing.{Typing}
 use Rattle.writing.specs.declared.state.State.{State}
-use Rattle.writing.specs.declared.set_type.Typed.{Typed}
-use Rattle.writing.specs.declared.ask.Added.{Added}
-use Rattle.writing.specs.declared.ask.Ask.{Ask}
+use Rattle.asking.specs.declared.set_type.Typed.{Typed}
+use Rattle.asking.specs.declared.ask.Added.{Added}
+use Rattle.asking.specs.declared.ask.Ask.{Ask}
 use Rattle.writing.specs.State.{Mem}
-use Rattle.writing.specs.Calls.{ask, askOf, stateAfter, eventWith, eventOf, eventCall, finished, finishCall, renewed, nextCall}
+use Rattle.asking.specs.Ask.{ask, askOf}
+use Rattle.writing.specs.Calls.{stateAfter, eventWith, eventOf, eventCall, finished, finishCall, renewed, nextCall}
 use Rattle.writer_model.specs.Took.{took-event, took-finish, took-next}
 use Rattle.writer_model.specs.Call.{Call, eventC, finishC, nextC, called}
 

@@ -10,12 +10,13 @@ use Rattle.kinds.specs.Event.{WellFormed, Malformed}
 use Rattle.store.specs.Log.{heard}
 use Rattle.writing.specs.declared.state.State.{State}
 use Rattle.writing.specs.declared.state.Wrote.{Wrote}
-use Rattle.writing.specs.declared.set_type.Typed.{Typed}
-use Rattle.writing.specs.declared.set_type.Typed.the-variants.{Set, Mixed}
-use Rattle.writing.specs.declared.ask.Ask.{Ask}
+use Rattle.asking.specs.declared.set_type.Typed.{Typed}
+use Rattle.asking.specs.declared.set_type.Typed.the-variants.{Set, Mixed}
+use Rattle.asking.specs.declared.ask.Ask.{Ask}
 use Rattle.writing.specs.State.{Mem, Outcome, wrote, settled}
-use Rattle.writing.specs.SetType.{typedNumber}
-use Rattle.writing.specs.Calls.{noWords, askOf, begun, recordsFor, stateAfter, roomOr, decideTyped, decideEvent, eventWith, eventOf, eventCall, finished, decideFinish, finishCall, renewed, decideNext, nextCall}
+use Rattle.asking.specs.SetType.{typedNumber}
+use Rattle.asking.specs.Ask.{noWords, askOf, begun}
+use Rattle.writing.specs.Calls.{recordsFor, stateAfter, roomOr, decideTyped, decideEvent, eventWith, eventOf, eventCall, finished, decideFinish, finishCall, renewed, decideNext, nextCall}
 use Rattle.writer_model.specs.Writer.{Writer, waits, nay}
 use Rattle.writer_model.specs.Stands.{Stands}
 use Rattle.writer_model.specs.Took.{room}

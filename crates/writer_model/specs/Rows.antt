@@ -8,10 +8,11 @@ use Rattle.kinds.specs.Lanes.{xyL}
 use Rattle.kinds.specs.Event.{Parsed}
 use Rattle.kinds.specs.Event.{WellFormed, Malformed}
 use Rattle.store.specs.Log.{heard}
-use Rattle.writing.specs.declared.state.Typing.{Typing}
+use Rattle.asking.specs.declared.typing.Typing.{Typing}
 use Rattle.writing.specs.declared.state.State.{State}
 use Rattle.writing.specs.State.{Mem, withProperties}
-use Rattle.writing.specs.Calls.{askOf, started, eventWith, eventOf, eventCall, finishCall}
+use Rattle.asking.specs.Ask.{askOf}
+use Rattle.writing.specs.Calls.{started, eventWith, eventOf, eventCall, finishCall}
 use Rattle.writer_model.specs.Writer.{Writer, fresh}
 use Rattle.writer_model.specs.Stands.{Stands, Agrees}
 use Rattle.writer_model.specs.Stays.{stands-start, stands-agree, stands-properties, no-root}

@@ -11,9 +11,10 @@ use Rattle.kinds.specs.declared.geometry.Judged.the-variants.{Good}
 use Rattle.store.specs.Records.{recordIn}
 use Rattle.store.specs.RecordLaws.{InPool, InTable}
 use Rattle.store.specs.Lists.{Rec, listsOf}
-use Rattle.writing.specs.declared.state.Words.{Words}
+use Rattle.pending.specs.declared.words.Words.{Words}
 use Rattle.writing.specs.declared.state.State.{State}
-use Rattle.writing.specs.State.{wordsIn, used, poolIn, Mem}
+use Rattle.pending.specs.Words.{wordsIn, used}
+use Rattle.writing.specs.State.{poolIn, Mem}
 use Rattle.writer_model.specs.Writer.{Writer, waits}
 use Rattle.writer_model.specs.Laid.{laid}
 use Rattle.writer_model.specs.Each.{Each}

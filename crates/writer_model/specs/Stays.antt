@@ -14,9 +14,10 @@ use Rattle.kinds.specs.declared.geometry.Span.the-variants.{Absent, Stretch}
 use Rattle.store.specs.Records.{recordIn}
 use Rattle.store.specs.RecordLaws.{InPool, InTable}
 use Rattle.store.specs.Lists.{Pools, Rec, listOf, listsOf}
-use Rattle.writing.specs.declared.state.Words.{Words}
+use Rattle.pending.specs.declared.words.Words.{Words}
 use Rattle.writing.specs.declared.state.State.{State}
-use Rattle.writing.specs.State.{words, wordsIn, withProperties, used, poolIn, Mem}
+use Rattle.pending.specs.Words.{words, wordsIn, used}
+use Rattle.writing.specs.State.{withProperties, poolIn, Mem}
 use Rattle.writing.specs.Calls.{started}
 use Rattle.writer_model.specs.Writer.{Writer, fresh, isThere}
 use Rattle.writer_model.specs.Each.{Each, each-still}

@@ -10,15 +10,19 @@ use Rattle.laws.specs.Every.{both}
 use Rattle.kinds.specs.Lanes.{Lane, usable, everyLane, lentIn}
 use Rattle.store.specs.Lists.{lentOf}
 use Rattle.store.specs.Records.{recordsLent}
-use Rattle.writing.specs.declared.state.Typing.{Typing}
-use Rattle.writing.specs.declared.state.Pending.{Pending}
+use Rattle.asking.specs.declared.typing.Typing.{Typing}
+use Rattle.pending.specs.declared.words.Pending.{Pending}
 use Rattle.writing.specs.declared.state.State.{State}
-use Rattle.writing.specs.declared.set_type.Typed.{Typed}
-use Rattle.writing.specs.declared.set_type.Typed.the-variants.{Set, Mixed}
-use Rattle.writing.specs.declared.ask.Added.{Added}
-use Rattle.writing.specs.declared.ask.Ask.{Ask}
-use Rattle.writing.specs.State.{wordsIn, used, poolIn, Mem, wrote}
-use Rattle.writing.specs.Calls.{more, noWords, roomIn, laneRoom, hasRoom, recordsFor, stateAfter, roomOr, decideTyped, decideEvent, finished, decideFinish, renewed, decideNext}
+use Rattle.asking.specs.declared.set_type.Typed.{Typed}
+use Rattle.asking.specs.declared.set_type.Typed.the-variants.{Set, Mixed}
+use Rattle.asking.specs.declared.ask.Added.{Added}
+use Rattle.asking.specs.declared.ask.Ask.{Ask}
+use Rattle.pending.specs.Words.{wordsIn, used}
+use Rattle.writing.specs.State.{poolIn, Mem, wrote}
+use Rattle.pending.specs.Growth.{more}
+use Rattle.asking.specs.Ask.{noWords}
+use Rattle.pending.specs.Room.{roomIn, laneRoom, hasRoom}
+use Rattle.writing.specs.Calls.{recordsFor, stateAfter, roomOr, decideTyped, decideEvent, finished, decideFinish, renewed, decideNext}
 use Rattle.kinds.specs.LaneLaws.{lane-of-every}
 use Rattle.writer_model.specs.Lanes.{lent-by}
 

@@ -14,7 +14,8 @@ use Rattle.store.specs.Lists.{Rec, lentOf, seen, recordWith, with-good}
 use Rattle.store.specs.Records.{recordsLent, tableGood, hasRecord, recordIn, inPool, inTable, listsIn}
 use Rattle.store.specs.RecordLaws.{InPool, InTable, record-is, good-lent}
 use Rattle.writing.specs.declared.state.State.{State}
-use Rattle.writing.specs.State.{wordsIn, poolIn, Mem}
+use Rattle.pending.specs.Words.{wordsIn}
+use Rattle.writing.specs.State.{poolIn, Mem}
 use Rattle.writing.specs.Calls.{finishCall}
 use Rattle.kinds.specs.LaneLaws.{every-of-lanes}
 use Rattle.writer_model.specs.Writer.{Writer, rootOver, tree, finish}

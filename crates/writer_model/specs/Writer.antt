@@ -8,12 +8,11 @@ use lib.Dec.{leb, ltb, eqb}
 use Rattle.kinds.specs.Event.{bitSet}
 use Rattle.kinds.specs.declared.event.Event.{Event}
 use Rattle.store.specs.Lists.{Pools, poolsOf, Rec}
-use Rattle.writing.specs.declared.state.Typing.{Typing}
-use Rattle.writing.specs.declared.set_type.Typed.{Typed}
-use Rattle.writing.specs.declared.set_type.Typed.the-variants.{Set, Mixed}
-use Rattle.writing.specs.State.{typing}
-use Rattle.writing.specs.SetType.{withMode, typedNumber}
-use Rattle.writing.specs.Calls.{begun, calmed, pushesEnd, collects}
+use Rattle.asking.specs.declared.typing.Typing.{Typing}
+use Rattle.asking.specs.declared.set_type.Typed.{Typed}
+use Rattle.asking.specs.declared.set_type.Typed.the-variants.{Set, Mixed}
+use Rattle.asking.specs.SetType.{typing, withMode, typedNumber}
+use Rattle.asking.specs.Ask.{begun, calmed, pushesEnd, collects}
 
 -- pending lists belong to no part yet; a finished feature waits while it has a root
 pub record Writer : Type 0 where

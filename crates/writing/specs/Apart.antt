@@ -6,64 +6,22 @@ use Prim.Native.Nat.{ℕ, _+_, _≤_}
 use native.Mathlib.Omega.{arith}
 use lib.Dec.{eqb}
 use borrow.Author.Tests.{le-leb, not-true}
-use Rattle.laws.specs.Every.{never, both}
+use Rattle.laws.specs.Every.{both}
 use Rattle.kinds.specs.Event.{Parsed, WellFormed, Malformed}
-use Rattle.kinds.specs.Lanes.{Lane, xyL, endsL, zL, mL, tL, tmL, usable, lentIn}
 use Rattle.kinds.specs.declared.geometry.Lent.{Lent}
 use Rattle.store.specs.Lists.{lentOf}
 use Rattle.store.specs.Log.{heard}
 use Rattle.store.specs.Records.{recordsLent}
-use Rattle.writing.specs.declared.ask.Added.{Added}
-use Rattle.writing.specs.declared.ask.Ask.{Ask}
-use Rattle.writing.specs.declared.set_type.Typed.{Typed}
-use Rattle.writing.specs.declared.set_type.Typed.the-variants.{Set, Mixed}
-use Rattle.writing.specs.declared.state.Pending.{Pending}
+use Rattle.asking.specs.declared.ask.Ask.{Ask}
+use Rattle.asking.specs.declared.set_type.Typed.{Typed}
+use Rattle.asking.specs.declared.set_type.Typed.the-variants.{Set, Mixed}
 use Rattle.writing.specs.declared.state.State.{State}
-use Rattle.writing.specs.State.{wordsIn, used, recordsUsed, Mem, wrote}
-use Rattle.writing.specs.Calls.{noWords, more, roomIn, hasRoom, isReady, askOf, recordsFor, decideTyped, decideEvent, eventWith, eventOf, eventCall}
-use Rattle.writing.specs.Room.{Room, room-in, room-of, has-room-of}
+use Rattle.pending.specs.Words.{used}
+use Rattle.writing.specs.State.{recordsUsed, Mem, wrote}
+use Rattle.asking.specs.Ask.{noWords, askOf}
+use Rattle.pending.specs.Room.{hasRoom, Room, room-of, has-room-of, room-before, and-true}
+use Rattle.writing.specs.Calls.{isReady, recordsFor, decideTyped, decideEvent, eventWith, eventOf, eventCall}
 use Rattle.writing.specs.Ready.{Ready}
-
--- two tests that are true together are the same
-pub same-truth : (a b : Bool) → (a ≡ true → b ≡ true) → (b ≡ true → a ≡ true) → a ≡ b
-same-truth true b f g = sym (f refl)
-same-truth false true f g = g refl
-same-truth false false f g = refl
-
-pub and-true : {a b : Bool} → a ≡ true → b ≡ true → (a && b) ≡ true
-and-true h k = rw (h, k)
-
-pub room-tested : {n count most : ℕ} → n ≤ count → n ≤ most → roomIn n count most ≡ true
-room-tested h k = and-true (le-leb _ _ h) (le-leb _ _ k)
-
--- nothing more is no more than anything
-none-more : (p : Pending) (a : Added) (most : Lane → ℕ) → ((n : Lane) → used (wordsIn p n) + more a n ≤ most n) → (n : Lane) → used (wordsIn p n) + more noWords n ≤ most n
-none-more p a most h xyL = omega (arith, h xyL)
-none-more p a most h endsL = omega (arith, h endsL)
-none-more p a most h zL = omega (arith, h zL)
-none-more p a most h mL = omega (arith, h mL)
-none-more p a most h tL = omega (arith, h tL)
-none-more p a most h tmL = omega (arith, h tmL)
-
-room-before : (p : Pending) (a : Added) (used-records needed records : ℕ) (pools : Lent) → used-records ≤ needed → hasRoom p a needed records pools ≡ true → hasRoom p noWords used-records records pools ≡ true
-room-before p a used-records needed records pools fewer h =
-    let r = room-of p a needed records pools h in
-    has-room-of p noWords used-records records pools (record { table = omega (arith, fewer, r .table); records-fit = omega (arith, fewer, r .records-fit); words = none-more p a (lentIn pools) (r .words); fits = none-more p a usable (r .fits) })
-
--- the test of room is that of what is used, and a test of what is added
-pub room-apart : (p : Pending) (a : Added) (used-records needed records : ℕ) (pools : Lent) (test : Bool) → used-records ≤ needed
-    → (Room p a needed records pools → test ≡ true)
-    → (Room p noWords used-records records pools → test ≡ true → Room p a needed records pools)
-    → hasRoom p a needed records pools ≡ (hasRoom p noWords used-records records pools && test)
-room-apart p a used-records needed records pools test fewer tells makes = same-truth _ _ forth back
-  where
-    forth : hasRoom p a needed records pools ≡ true → (hasRoom p noWords used-records records pools && test) ≡ true
-    forth h = and-true (room-before p a used-records needed records pools fewer h) (tells (room-of p a needed records pools h))
-
-    back : (hasRoom p noWords used-records records pools && test) ≡ true → hasRoom p a needed records pools ≡ true
-    back h =
-        let t = both (hasRoom p noWords used-records records pools) test h in
-        has-room-of p a needed records pools (makes (room-of p noWords used-records records pools (t .0)) (t .1))
 
 -- a part's record stands above those that are used
 pub used-before : (s : State) (part : Bool) → recordsUsed s ≤ cond part (s .parts + 2) (recordsUsed s)

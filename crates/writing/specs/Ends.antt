@@ -13,8 +13,10 @@ use Rattle.store.specs.Records.{recordsLent, putRecord}
 use Rattle.writing.specs.declared.state.State.{State}
 use Rattle.writing.specs.declared.state.Wrote.{Wrote}
 use Rattle.writing.specs.State.{Mem, memory, memOf, Outcome, outcome, settled, wrote}
-use Rattle.writing.specs.Calls.{noWords, askOf, eventWith, eventOf, eventCall, rootOf, decideFinish, finishCall, poolMoved, decideNext, nextCall}
-use Rattle.writing.specs.Room.{Room, finish-accepted, next-accepted}
+use Rattle.asking.specs.Ask.{noWords, askOf}
+use Rattle.writing.specs.Calls.{eventWith, eventOf, eventCall, rootOf, decideFinish, finishCall, poolMoved, decideNext, nextCall}
+use Rattle.pending.specs.Room.{Room}
+use Rattle.writing.specs.Accepted.{finish-accepted, next-accepted}
 
 -- ---- done, with the memory as the call says; refused, with nothing changed
 done : {r d : Wrote} {k′ after : Mem} (k : Mem) → r ≡ d → r .number ≡ 0 → k′ ≡ after → outcome r k′ ≡ settled d k after

@@ -1,7 +1,6 @@
 pub mod State
-pub mod SetType
 pub mod Calls
-pub mod Room
+pub mod Accepted
 pub mod Ready
 pub mod Apart
 pub mod Other

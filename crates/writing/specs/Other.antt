@@ -10,21 +10,23 @@ use Rattle.laws.specs.Cond.{if-so, if-not}
 use Rattle.laws.specs.Every.{never, both}
 use Rattle.kinds.specs.Event.{wellFormed}
 use Rattle.kinds.specs.EventLaws.{no-kind}
-use Rattle.kinds.specs.Lanes.{Lane, xyL, endsL, zL, mL, tL, tmL}
+use Rattle.kinds.specs.Lanes.{xyL, endsL, zL, mL, tL, tmL}
 use Rattle.kinds.specs.declared.event.Event.{Event}
 use Rattle.kinds.specs.declared.geometry.Lent.{Lent}
 use Rattle.store.specs.LogLaws.{HeardOther, heard-event}
-use Rattle.writing.specs.declared.ask.Added.{Added}
-use Rattle.writing.specs.declared.ask.Ask.{Ask}
-use Rattle.writing.specs.declared.set_type.Typed.{Typed}
-use Rattle.writing.specs.declared.set_type.Typed.the-variants.{Set, Mixed}
-use Rattle.writing.specs.declared.state.Typing.{Typing}
+use Rattle.asking.specs.declared.ask.Added.{Added}
+use Rattle.asking.specs.declared.ask.Ask.{Ask}
+use Rattle.asking.specs.declared.set_type.Typed.{Typed}
+use Rattle.asking.specs.declared.set_type.Typed.the-variants.{Set, Mixed}
+use Rattle.asking.specs.declared.typing.Typing.{Typing}
 use Rattle.writing.specs.declared.state.State.{State}
 use Rattle.writing.specs.declared.state.Wrote.{Wrote}
-use Rattle.writing.specs.State.{used, recordsUsed, wrote}
-use Rattle.writing.specs.Calls.{noWords, endIf, ask, askOf, roomIn, hasRoom, isReady, recordsFor, stateAfter, decideTyped, decideEvent}
-use Rattle.writing.specs.Room.{Room, Fits, room-in}
-use Rattle.writing.specs.Apart.{used-before, and-true, room-tested, room-apart}
+use Rattle.pending.specs.Words.{used}
+use Rattle.writing.specs.State.{recordsUsed, wrote}
+use Rattle.asking.specs.Ask.{noWords, endIf, ask, OnlyEnds}
+use Rattle.pending.specs.Room.{roomIn, hasRoom, Fits, room-in, and-true, room-tested, room-apart}
+use Rattle.writing.specs.Calls.{isReady, recordsFor, stateAfter, decideTyped, decideEvent}
+use Rattle.writing.specs.Apart.{used-before}
 
 -- room for what a begin or an end adds: a part's record, and an end
 abbrev pub otherRoom : State → Ask → ℕ → ℕ → Bool
@@ -44,21 +46,6 @@ other-below {bytes} e h = by-test (leb 64 (e .kind)) refl
     by-test true is =
         let none = no-kind (e .kind) (leb-true 64 (e .kind) is) (h .not-xy) (h .not-coordinate) in
         absurd (never (rw none at (heard-event bytes e (h .is) .formed)))
-
--- ---- it adds to the ends at most
-abbrev pub OnlyEnds : Ask → Type 0
-OnlyEnds a = a .added ≡ endIf (a .added .ends)
-
-only-cond : (b : Bool) (x y : Ask) → OnlyEnds x → OnlyEnds y → OnlyEnds (cond b x y)
-only-cond true x y h k = h
-only-cond false x y h k = k
-
-pub other-adds : (h : Typing) (e : Event) → e .kind < 64 → OnlyEnds (askOf h e)
-unfolding askOf
-other-adds h e below =
-    only-cond (ltb (e .kind) 32) _ _ refl
-    (rw (lt-leb 64 (e .kind) below)
-    (only-cond (eqb (e .kind) 33) _ _ refl (only-cond (eqb (e .kind) 34) _ _ refl (only-cond (eqb (e .kind) 35) _ _ refl (only-cond (eqb (e .kind) 39) _ _ refl refl)))))
 
 -- ---- what its test of room tells
 module _ (s : State) (a : Ask) (records ends : ℕ) (room : otherRoom s a records ends ≡ true) where

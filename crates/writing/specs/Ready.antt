@@ -5,22 +5,23 @@ use mathlib.Core.List.{List}
 use Prim.Native.Nat.{ℕ, _+_, _≤_}
 use native.Mathlib.Omega.{arith}
 use lib.Dec.{leb, eqb}
-use Rattle.kinds.specs.Lanes.{Lane, xyL, endsL, zL, mL, tL, tmL, usable, lentIn}
-use Rattle.kinds.specs.Event.{Parsed}
-use Rattle.kinds.specs.Event.{WellFormed, Malformed}
+use Rattle.kinds.specs.Lanes.{usable, lentIn}
+use Rattle.kinds.specs.Event.{Parsed, WellFormed, Malformed}
 use Rattle.kinds.specs.declared.geometry.Lent.{Lent}
 use Rattle.store.specs.Lists.{lentOf}
 use Rattle.store.specs.Log.{heard}
 use Rattle.store.specs.Records.{recordsLent}
-use Rattle.writing.specs.declared.state.Typing.{Typing}
-use Rattle.writing.specs.declared.state.Pending.{Pending}
+use Rattle.asking.specs.declared.typing.Typing.{Typing}
+use Rattle.pending.specs.declared.words.Pending.{Pending}
 use Rattle.writing.specs.declared.state.State.{State}
-use Rattle.writing.specs.declared.set_type.Typed.{Typed}
-use Rattle.writing.specs.declared.set_type.Typed.the-variants.{Set, Mixed}
-use Rattle.writing.specs.declared.ask.Ask.{Ask}
-use Rattle.writing.specs.State.{withTyping, withParts, withPending, wordsIn, used, recordsUsed, Mem, wrote}
-use Rattle.writing.specs.Calls.{more, noWords, hasRoom, grownAll, pastAll, askOf, recordsFor, stateAfter, decideTyped, decideEvent, eventWith, eventOf, eventCall}
-use Rattle.writing.specs.Room.{Room, room-of, grown-within}
+use Rattle.asking.specs.declared.set_type.Typed.{Typed}
+use Rattle.asking.specs.declared.set_type.Typed.the-variants.{Set, Mixed}
+use Rattle.asking.specs.declared.ask.Ask.{Ask}
+use Rattle.writing.specs.State.{withTyping, withParts, withPending, recordsUsed, Mem, wrote}
+use Rattle.pending.specs.Growth.{grownAll, pastAll}
+use Rattle.asking.specs.Ask.{noWords, askOf}
+use Rattle.pending.specs.Room.{hasRoom, Room, room-of, grown-within, past-within}
+use Rattle.writing.specs.Calls.{recordsFor, stateAfter, decideTyped, decideEvent, eventWith, eventOf, eventCall}
 
 pub record Ready (s : State) (records : ℕ) (pools : Lent) : Type 0 where
   pub turn : s .waiting ≡ false
@@ -28,20 +29,6 @@ pub record Ready (s : State) (records : ℕ) (pools : Lent) : Type 0 where
 
 pub same-ready : {s s′ : State} {records records′ : ℕ} {pools pools′ : Lent} → s ≡ s′ → records ≡ records′ → pools ≡ pools′ → Ready s records pools → Ready s′ records′ pools′
 same-ready a b c ready = rw (← a, ← b, ← c) ready
-
--- a part takes no more words than are pending
-none-or-all : (b : Bool) (n : ℕ) → cond b 0 n ≤ n
-none-or-all true n = omega arith
-none-or-all false n = omega arith
-
-past-within : (p : Pending) (most : Lane → ℕ) → ((n : Lane) → used (wordsIn p n) + more noWords n ≤ most n) → (n : Lane) → used (wordsIn (pastAll p) n) + more noWords n ≤ most n
-unfolding pastAll
-past-within p most h xyL = omega (arith, h xyL, none-or-all (leb (p .xy .count) 0) (p .xy .count))
-past-within p most h endsL = omega (arith, h endsL, none-or-all (leb (p .ends .count) 1) (p .ends .count))
-past-within p most h zL = omega (arith, h zL, none-or-all (leb (p .z .count) 0) (p .z .count))
-past-within p most h mL = omega (arith, h mL, none-or-all (leb (p .m .count) 0) (p .m .count))
-past-within p most h tL = omega (arith, h tL, none-or-all (leb (p .t .count) 0) (p .t .count))
-past-within p most h tmL = omega (arith, h tmL, none-or-all (leb (p .tm .count) 0) (p .tm .count))
 
 none-or-some : (b : Bool) (n : ℕ) → cond b n 0 ≤ n
 none-or-some true n = omega arith

@@ -5,29 +5,12 @@ use Prim.Native.Nat.{ℕ, _+_}
 use lib.Dec.{eqb}
 use Rattle.kinds.specs.Lanes.{Lane, xyL, endsL, zL, mL, tL, tmL}
 use Rattle.store.specs.Lists.{Pools, poolsOf}
-use Rattle.writing.specs.declared.state.Typing.{Typing}
-use Rattle.writing.specs.declared.state.Words.{Words}
-use Rattle.writing.specs.declared.state.Pending.{Pending}
+use Rattle.asking.specs.declared.typing.Typing.{Typing}
+use Rattle.pending.specs.declared.words.Pending.{Pending}
 use Rattle.writing.specs.declared.state.State.{State}
 use Rattle.writing.specs.declared.state.Wrote.{Wrote}
-
-abbrev pub typing : ℕ → Bool → Bool → ℕ → ℕ → Typing
-typing declared detect promote current mode = record { declared = declared; detect = detect; promote = promote; current = current; mode = mode }
-
-abbrev pub words : ℕ → ℕ → Words
-words start count = record { start = start; count = count }
-
--- ---- the pending words, by lane
-abbrev pub wordsIn : Pending → Lane → Words
-wordsIn p xyL = p .xy
-wordsIn p endsL = p .ends
-wordsIn p zL = p .z
-wordsIn p mL = p .m
-wordsIn p tL = p .t
-wordsIn p tmL = p .tm
-
-abbrev pub pendingOf : (Lane → Words) → Pending
-pendingOf f = record { xy = f xyL; ends = f endsL; z = f zL; m = f mL; t = f tL; tm = f tmL }
+use Rattle.asking.specs.SetType.{typing}
+use Rattle.pending.specs.Words.{words, pendingOf}
 
 -- ---- a writer that nothing was given; every other state is one that a call changed, field by field
 abbrev pub fresh : State
@@ -47,10 +30,6 @@ withProperties s properties = record { typing = s .typing; waiting = s .waiting;
 
 abbrev pub withPending : State → Pending → State
 withPending s pending = record { typing = s .typing; waiting = s .waiting; parts = s .parts; properties = s .properties; pending = pending }
-
--- ---- what a state uses: each pool up to its last pending word
-abbrev pub used : Words → ℕ
-used p = p .start + p .count
 
 -- a state uses records 1 to n for its parts, and record 0 once a finished feature waits; with no part and nothing finished, no record
 abbrev pub recordsUsed : State → ℕ

@@ -1,25 +1,26 @@
 // What a call answers, and the state after it, from the state and what is lent: no memory is touched.
-use crate::ask::Added;
-use crate::ask::Ask;
-use crate::pending::fronted_all;
-use crate::pending::grown_all;
-use crate::pending::past_all;
-use crate::room::has_room;
-use crate::room::other_room;
-use crate::set_type::Typed;
-use crate::state::Pending;
+use crate::ready::other_room;
 use crate::state::State;
-use crate::state::Typing;
 use crate::state::Wrote;
+use asking::ask::Added;
+use asking::ask::Ask;
+use asking::set_type::Typed;
+use asking::typing::Typing;
 use kinds::geometry::Lent;
 use kinds::refusal;
+use pending::growth::fronted_all;
+use pending::growth::grown_all;
+use pending::growth::past_all;
+use pending::room::has_room;
+use pending::words::Pending;
 ghost use mathlib.Core.Path.{_≡_};
 ghost use mathlib.Core.Bool.{true};
 ghost use Prim.Native.Nat.{_+_, _≤_};
 ghost use Rattle.writing.specs.State.{withWaiting, withPending};
-ghost use Rattle.writing.specs.Calls.{noWords, stateAfter, finished, decideFinish, renewed, decideNext};
-ghost use Rattle.writing.specs.Room.{Fits};
-ghost use Rattle.writing.specs.Other.{OnlyEnds, decideOther};
+ghost use Rattle.asking.specs.Ask.{noWords, OnlyEnds};
+ghost use Rattle.writing.specs.Calls.{stateAfter, finished, decideFinish, renewed, decideNext};
+ghost use Rattle.pending.specs.Room.{Fits};
+ghost use Rattle.writing.specs.Other.{decideOther};
 
 fn state_after(s: State, a: Ask, typing: Typing) -> State
     requires fits { ⌜ Fits (s .pending) (a .added) ⌝ }

@@ -1,8 +1,5 @@
-// What a writer decides: its state, what an event asks for, room, and the records that it puts down. No memory is touched.
-pub mod ask;
+// What a writer decides: its state, whether it is ready, and what each call answers. No memory is touched.
 pub mod decide;
-pub mod part;
-pub mod pending;
-pub mod room;
-pub mod set_type;
+pub mod ready;
+pub mod root;
 pub mod state;

@@ -3,7 +3,7 @@ use lib.ListN.{length-set}
 use denote.Ref.{now}
 use borrow.Author.Needs.{needs}
 use Rattle.laws.specs.Runs.{two}
-use Rattle.writing.specs.State.{used as spec-used}
+use Rattle.pending.specs.Words.{used as spec-used}
 use Rattle.pools.proofs.push_pair.Statement.{statement}
 use Rattle.pools.proofs.push_pair.Tie as tie
 

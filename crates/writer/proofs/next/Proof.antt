@@ -5,9 +5,9 @@ use borrow.Author.Needs.{needs}
 use Rattle.kinds.specs.Lanes.{xyL, endsL, zL, mL, tL, tmL}
 use Rattle.store.specs.Records.{recordsLent}
 use Rattle.store.specs.Lists.{lentOf}
-use Rattle.writing.specs.Calls.{noWords}
+use Rattle.asking.specs.Ask.{noWords}
 use Rattle.writing.specs.Ends.{next-room, next-taken, next-refused}
-use Rattle.writing.specs.Room.{Room}
+use Rattle.pending.specs.Room.{Room}
 use Rattle.writing.specs.State.{Mem, memOf}
 use Rattle.writer.proofs.next.Statement.{statement}
 use Rattle.writer.proofs.next.Tie as tie

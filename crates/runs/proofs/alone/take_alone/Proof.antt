@@ -8,7 +8,7 @@ use borrow.Author.Needs.{needs}
 use Rattle.laws.specs.Branch.{is-true, is-false}
 use Rattle.laws.specs.Cond.{if-so, if-not}
 use Rattle.laws.specs.Every.{both}
-use Rattle.writing.specs.Room.{room-in}
+use Rattle.pending.specs.Room.{room-in}
 use Rattle.writing.specs.State.{wrote}
 use Rattle.runs.specs.Run.{pairRoom}
 use Rattle.runs.proofs.alone.take_alone.Statement.{statement}

@@ -12,11 +12,12 @@ use Rattle.kinds.specs.Event.{toldApart}
 use Rattle.kinds.specs.declared.event.Heard.{Heard}
 use Rattle.store.specs.Log.{heard}
 use Rattle.store.specs.LogLaws.{Behind, behind}
-use Rattle.writing.specs.declared.ask.Added.{Added}
-use Rattle.writing.specs.Calls.{pairWith, grownValues}
+use Rattle.asking.specs.declared.ask.Added.{Added}
+use Rattle.asking.specs.Ask.{pairWith}
+use Rattle.pending.specs.Growth.{grownValues}
 use Rattle.runs.specs.Events.{recordOf}
 use Rattle.writing.specs.Other.{other-below}
-use Rattle.writing.specs.Room.{room-in}
+use Rattle.pending.specs.Room.{room-in}
 use Rattle.runs.specs.Run.{Values, valuesOf, valuesRoom, pairRoom, pushed, Run, none-taken, whole-record, pair-taken, pair-blocked, quiet-taken, quiet-blocked, coordinate-taken, coordinate-blocked}
 use Rattle.runs.proofs.run.take_plain.Statement.{statement}
 use Rattle.runs.proofs.run.take_plain.Tie as tie

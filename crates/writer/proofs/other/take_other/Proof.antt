@@ -10,11 +10,12 @@ use borrow.Author.Tests.{eq-eqb, ne-eqb}
 use Rattle.laws.specs.Cond.{if-so, if-not}
 use Rattle.kinds.specs.Lanes.{endsL}
 use Rattle.store.specs.Records.{recordsLent}
-use Rattle.writing.specs.declared.ask.Ask.{Ask}
+use Rattle.asking.specs.declared.ask.Ask.{Ask}
 use Rattle.writing.specs.declared.state.Wrote.{Wrote}
-use Rattle.writing.specs.State.{used}
-use Rattle.writing.specs.Calls.{askOf, gives, tableAfter}
-use Rattle.writing.specs.Other.{otherRoom, decideOther, other-adds, other-accepted, other-end, other-part, other-fits}
+use Rattle.pending.specs.Words.{used}
+use Rattle.asking.specs.Ask.{askOf, other-adds}
+use Rattle.writing.specs.Calls.{gives, tableAfter}
+use Rattle.writing.specs.Other.{otherRoom, decideOther, other-accepted, other-end, other-part, other-fits}
 use Rattle.writer.proofs.other.take_other.Statement.{statement}
 use Rattle.writer.proofs.other.take_other.Tie as tie
 

@@ -2,7 +2,7 @@ use mathlib.Core.Path.{refl, sym, ap, _∙_}
 use borrow.Author.Needs.{needs}
 use Rattle.laws.specs.Cond.{if-so, if-not}
 use Rattle.writing.specs.State.{wrote}
-use Rattle.writing.specs.Room.{room-of}
+use Rattle.pending.specs.Room.{room-of}
 use Rattle.writing.specs.Calls.{decideFinish}
 use Rattle.writing.proofs.decide.decide_finish.Statement.{statement}
 use Rattle.writing.proofs.decide.decide_finish.Tie as tie

@@ -4,7 +4,7 @@ use borrow.Author.Tests.{eq-eqb, ne-eqb}
 use borrow.Author.Needs.{needs}
 use Rattle.laws.specs.Cond.{if-so, if-not}
 use Rattle.writing.specs.State.{withWaiting, withPending}
-use Rattle.writing.specs.declared.state.Pending.{Pending}
+use Rattle.pending.specs.declared.words.Pending.{Pending}
 use Rattle.writing.specs.Calls.{finished as spec-finished}
 use Rattle.writing.proofs.decide.finished.Statement.{statement}
 use Rattle.writing.proofs.decide.finished.Tie as tie

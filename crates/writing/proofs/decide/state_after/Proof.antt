@@ -1,7 +1,7 @@
 use native.Mathlib.Omega.{arith}
 use borrow.Author.Needs.{needs}
 use Rattle.laws.specs.Cond.{if-so, if-not}
-use Rattle.writing.specs.Room.{grown-fits}
+use Rattle.pending.specs.Room.{grown-fits}
 use Rattle.writing.specs.Calls.{stateAfter}
 use Rattle.writing.proofs.decide.state_after.Statement.{statement}
 use Rattle.writing.proofs.decide.state_after.Tie as tie

@@ -1,0 +1,2 @@
+pub mod SetType
+pub mod Ask

@@ -1,6 +1,0 @@
-use borrow.Author.Needs.{needs}
-use Rattle.writing.proofs.ask.point_end.Statement.{statement}
-use Rattle.writing.proofs.ask.point_end.Tie as tie
-
-pub point-end-spec : {M : Type 1} → statement M
-point-end-spec = tie.close (tie.spec (λ c κs. search needs) (λ c. cc))

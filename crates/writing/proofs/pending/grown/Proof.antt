@@ -1,6 +1,0 @@
-use borrow.Author.Needs.{needs}
-use Rattle.writing.proofs.pending.grown.Statement.{statement}
-use Rattle.writing.proofs.pending.grown.Tie as tie
-
-pub grown-spec : {M : Type 1} → statement M
-grown-spec = tie.close (tie.spec (λ c κs. search needs) (λ c. search needs) (λ c. cc))

@@ -1,6 +1,0 @@
-use borrow.Author.Needs.{needs}
-use Rattle.writing.proofs.pending.past.Statement.{statement}
-use Rattle.writing.proofs.pending.past.Tie as tie
-
-pub past-spec : {M : Type 1} → statement M
-past-spec = tie.close (tie.spec (λ c κs. search needs) (λ c. search needs) (λ c. cc))
