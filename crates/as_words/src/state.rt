@@ -148,11 +148,14 @@ pub fn keep(words: &mut StateWords, wrote: Wrote) -> u8
     wrote.number
 }
 
-// Keeps the state after the events that were taken, and gives the number. Where none was, the words stay as they were.
-pub fn keep_all(words: &mut StateWords, took: Took) -> u8
+// Keeps the state after the events that were taken, tells how many they were, and gives the number. Where none was, the words stay
+// as they were.
+pub fn keep_all(words: &mut StateWords, count: &mut usize, took: Took) -> u8
     ensures { λ r. ⌜ r ≡ took .number ⌝ }
+    ensures { λ _. ⌜ now (count .exit) ≡ took .taken ⌝ }
     ensures { λ _. ⌜ now (words .exit) ≡ wordsAfterAll (now (words .entry)) took ⌝ }
 {
+    *count = took.taken;
     if took.taken != 0 {
         let after = words_of(took.state);
         *words = after;

@@ -23,11 +23,11 @@ pub kept-call : (call : State → Outcome) (words : List ℕ) {s : State} {r : W
 unfolding keptOf
 kept-call call words mem same called number-is words-are = rw (number-is, words-are) (ap (keptOf words) called ∙ ap (λ (s : State). keptOf words (call s)) same)
 
-pub taken-call : (call : State → Progress) (words : List ℕ) {s : State} {r : Took} {number : ℕ} {after : List ℕ} (mem : Mem)
-    → s ≡ stateOf words → progress r mem ≡ call s → number ≡ r .number → after ≡ wordsAfterAll words r
-    → taken number (r .taken) after mem ≡ takenOf words (call (stateOf words))
+pub taken-call : (call : State → Progress) (words : List ℕ) {s : State} {r : Took} {number count : ℕ} {after : List ℕ} (mem : Mem)
+    → s ≡ stateOf words → progress r mem ≡ call s → number ≡ r .number → count ≡ r .taken → after ≡ wordsAfterAll words r
+    → taken number count after mem ≡ takenOf words (call (stateOf words))
 unfolding takenOf
-taken-call call words mem same called number-is words-are = rw (number-is, words-are) (ap (takenOf words) called ∙ ap (λ (s : State). takenOf words (call s)) same)
+taken-call call words mem same called number-is count-is words-are = rw (number-is, count-is, words-are) (ap (takenOf words) called ∙ ap (λ (s : State). takenOf words (call s)) same)
 
 -- a count of log records fits 32 bits
 pub count-most : {A : Type 0} (F : Format A) (s : Script A) (L : List ℕ) {number count : ℕ} {M : List ℕ} → Said F s L number count M → count ≤ 1048576

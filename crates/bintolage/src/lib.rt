@@ -9,10 +9,10 @@ use kinds::flags::Flags;
 ghost use mathlib.Core.Path.{_≡_};
 ghost use Rattle.laws.specs.Cut.{Said};
 ghost use Rattle.store.specs.Lists.{poolsOf, lentOf, recordWith};
-ghost use Rattle.store.specs.Log.{events};
+ghost use Rattle.log.specs.Log.{events};
 ghost use Rattle.store.specs.Records.{recordAt};
 ghost use Rattle.property_reader.specs.Reading.{reading, stopped};
-ghost use Rattle.store.specs.Values.{values};
+ghost use Rattle.log.specs.Values.{values};
 ghost use Rattle.property_writer.specs.Writing.{bytesAfter};
 ghost use Rattle.reader.specs.Reading.{readS};
 ghost use Rattle.record_box.specs.Boxed.{boxedOf};
@@ -80,8 +80,7 @@ pub extern "C" fn bintolage_events(
 {
     let before = *state;
     let took = writer::events(state_of(before), records, table, xy, ends, z, m, t, tm);
-    *count = took.taken;
-    keep_all(state, took)
+    keep_all(state, count, took)
 }
 
 // Lays a value down after the feature's other property bytes. Refused: 15, 16, 11, 6, 12.

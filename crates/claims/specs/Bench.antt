@@ -11,14 +11,14 @@ use Rattle.geometry_layout.specs.Geometry.{geometryOf, soundGeometry, readGeome
 use Rattle.kinds.specs.Event.{beginE, endE, xyE}
 use Rattle.kinds.specs.declared.event.Event.{Event}
 use Rattle.store.specs.Lists.{Rec, poolsOf, recordWith}
-use Rattle.store.specs.Log.{events}
+use Rattle.log.specs.Log.{events}
 use Rattle.store.specs.Records.{hasRecord, recordIn, listsIn, recordAt}
 use Rattle.coords.specs.Coords.{pairS, coordsS, betweenS}
 use Rattle.lines.specs.Lines.{stretchS, linesS, flatO, flatS, ringsS, stretchesS, polygonS, multiLineS, pointS}
 use Rattle.reader.specs.Reading.{spanS, partsS, kindS, geometryS, rootS, readS}
 use Rattle.reader.specs.Examples.{noFlags}
 use Rattle.property_reader.specs.Reading.{reading}
-use Rattle.store.specs.Values.{values}
+use Rattle.log.specs.Values.{values}
 use Rattle.properties.specs.Examples as Properties
 use Rattle.writing.specs.State.{Mem}
 use Rattle.writing.specs.Calls.{started, eventCall}

@@ -9,7 +9,7 @@ use lib.ListN.{length}
 use lib.Dec.{eqb}
 use Rattle.laws.specs.Cut.{roomOf, Said}
 use Rattle.store.specs.Lists.{Rec, Pools, recordWith}
-use Rattle.store.specs.Log.{events}
+use Rattle.log.specs.Log.{events}
 use Rattle.store.specs.Records.{tableGood}
 use Rattle.reader.specs.Reading.{readS}
 use Rattle.reader.specs.Examples.{noFlags}

@@ -12,7 +12,7 @@ use Rattle.kinds.specs.Event.{EventSized, beginE, wellFormed}
 use Rattle.kinds.specs.declared.event.Event.{Event}
 use Rattle.kinds.specs.declared.flags.Flags.{Flags}
 use Rattle.store.specs.Lists.{Rec, Pools, recordWith}
-use Rattle.store.specs.Log.{events, hear-said}
+use Rattle.log.specs.Log.{events, hear-said}
 use Rattle.lines.specs.Lines.{orNone}
 use Rattle.reader.specs.Reading.{readS}
 use Rattle.reader.specs.Examples.{noFlags}

@@ -12,7 +12,7 @@ use Rattle.kinds.specs.Event.{beginE, endE, xyE, wellFormed}
 use Rattle.kinds.specs.declared.event.Event.{Event}
 use Rattle.kinds.specs.Event.{WellFormed}
 use Rattle.store.specs.Lists.{lentOf}
-use Rattle.store.specs.Log.{events, heard, hear-said}
+use Rattle.log.specs.Log.{events, heard, hear-said}
 use Rattle.store.specs.Records.{recordsLent}
 use Rattle.reader.specs.Examples.{noFlags}
 use Rattle.writing.specs.declared.state.State.{State}
@@ -58,7 +58,7 @@ module _ (s : State) (k : Mem) (w : Writer) (l : List ℕ) (f : Simple) (ok : fi
     state = fedTo s k (eventsOf noFlags 0 f);
     mem = fedMem s k (eventsOf noFlags 0 f);
     given = given-all (eventsOf noFlags 0 f) s k (both _ _ ok .0);
-    lent = fedMem s k (eventsOf noFlags 0 f);
+    lends = fedMem s k (eventsOf noFlags 0 f);
     same = agrees-self _ _;
     done = done s k w l (eventsOf noFlags 0 f) ok r;
     state-is = sym (finished-is s k w l (eventsOf noFlags 0 f) ok r);

@@ -11,7 +11,7 @@ use Rattle.kinds.specs.Event.{beginE, xyE, endE, wellFormed}
 use Rattle.kinds.specs.declared.event.Event.{Event}
 use Rattle.kinds.specs.Event.{WellFormed}
 use Rattle.event_layout.specs.Event.{eventBytes, eventOf, spareZero, readEvent}
-use Rattle.store.specs.Log.{events, heard}
+use Rattle.log.specs.Log.{events, heard}
 use Rattle.writing.specs.declared.state.State.{State}
 use Rattle.writing.specs.State.{Mem, Outcome}
 use Rattle.asking.specs.SetType.{setType}

@@ -8,14 +8,14 @@ use Rattle.laws.specs.Script.{Script, out, Format, run}
 use Rattle.laws.specs.Cut.{recordsOf, roomOf, bytesOf, Said}
 use Rattle.kinds.specs.declared.flags.Flags.{Flags}
 use Rattle.store.specs.Lists.{Pools, recordWith, lentOf}
-use Rattle.store.specs.Log.{events}
+use Rattle.log.specs.Log.{events}
 use Rattle.store.specs.Records.{recordAt}
 use Rattle.record_box.specs.declared.Boxed.{Boxed}
 use Rattle.record_box.specs.Boxed.{boxedOf}
 use Rattle.reader.specs.Reading.{readS}
 use Rattle.property_writer.specs.Writing.{bytesAfter}
 use Rattle.property_reader.specs.Reading.{reading, stopped}
-use Rattle.store.specs.Values.{values}
+use Rattle.log.specs.Values.{values}
 use Rattle.runs.specs.declared.took.Took.{Took}
 use Rattle.writing.specs.declared.state.State.{State}
 use Rattle.writing.specs.declared.state.Wrote.{Wrote}

@@ -8,7 +8,7 @@ use Rattle.kinds.specs.declared.event.Event.{Event}
 use Rattle.kinds.specs.Event.{Parsed}
 use Rattle.kinds.specs.declared.flags.Flags.{Flags}
 use Rattle.store.specs.Lists.{recordWith}
-use Rattle.store.specs.Log.{heard}
+use Rattle.log.specs.Log.{heard}
 use Rattle.store.specs.Records.{tableGood}
 use Rattle.writing.specs.declared.state.State.{State}
 use Rattle.writing.specs.State.{Mem}
@@ -43,7 +43,7 @@ module _ (F : Flags) {s s′ : State} {k k′ : Mem} (f : Simple) (w : Writer) (
   finish-writes : Writes s′ k′ (finish left)
   finish-writes =
       let g = given-writes w h (c .given) in
-      record { pairs = g .pairs; reached = rw (c .state-is, c .mem-is) (accepted (c .lent) finishC (c .same) (c .done) (g .reached)) }
+      record { pairs = g .pairs; reached = rw (c .state-is, c .mem-is) (accepted (c .lends) finishC (c .same) (c .done) (g .reached)) }
 
   pub tree-held : (m : Mem) → Agrees s′ k′ m → tableGood (m .table) ≡ true → Holds (recordWith (m .table) (m .pools)) 0 (tree left)
   unfolding finish

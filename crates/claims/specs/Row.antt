@@ -5,7 +5,7 @@ use Prim.Native.Nat.{ℕ}
 use Rattle.kinds.specs.declared.event.Event.{Event}
 use Rattle.kinds.specs.Event.{WellFormed}
 use Rattle.kinds.specs.declared.flags.Flags.{Flags}
-use Rattle.store.specs.Log.{heard}
+use Rattle.log.specs.Log.{heard}
 use Rattle.writing.specs.declared.state.State.{State}
 use Rattle.writing.specs.State.{Mem, withProperties}
 use Rattle.writing.specs.Calls.{eventCall, finishCall, nextCall}
@@ -25,11 +25,11 @@ pub record Finished (F : Flags) (s : State) (k : Mem) (f : Simple) (s′ : State
   pub state : State
   pub mem : Mem
   pub given : Given s k (eventsOf F 0 f) state mem
-  pub lent : Mem
-  pub same : Agrees state mem lent
-  pub done : finishCall state lent .wrote .number ≡ 0
-  pub state-is : s′ ≡ finishCall state lent .wrote .state
-  pub mem-is : k′ ≡ finishCall state lent .mem
+  pub lends : Mem
+  pub same : Agrees state mem lends
+  pub done : finishCall state lends .wrote .number ≡ 0
+  pub state-is : s′ ≡ finishCall state lends .wrote .state
+  pub mem-is : k′ ≡ finishCall state lends .mem
 
 -- a row of features, and the memory that each is read from, between finish and next
 pub data Row (F : Flags) : State → Mem → List Simple → List Mem → Type 0 where

@@ -88,9 +88,9 @@ pub fn say_record(bytes: &[u8], inside: u8) {
     if bytes.len() != EVENT_BYTES {
         return say(b"malformed");
     }
-    let heard = store::hear(bytes);
+    let heard = log::hear(bytes);
     if let Heard::Malformed = heard {
         return say(b"malformed");
     }
-    say_event(store::event_in(bytes), inside);
+    say_event(log::event_in(bytes), inside);
 }

@@ -63,11 +63,11 @@ fn show_record(bytes: &[u8], spot: Spot) -> Spot {
     if bytes.len() != EVENT_BYTES {
         return spot;
     }
-    let heard = store::hear(bytes);
+    let heard = log::hear(bytes);
     if let Heard::Malformed = heard {
         return spot;
     }
-    show_event(store::event_in(bytes), spot)
+    show_event(log::event_in(bytes), spot)
 }
 
 // The first events of a log, so many.

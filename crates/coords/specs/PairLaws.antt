@@ -7,7 +7,7 @@ use Prim.Native.Nat.{ℕ, zero, suc, _+_, _<_, _≤_}
 use native.Mathlib.Numerals.{add-one}
 use lib.ListN.{length, drop, getD, drop-of-length-le}
 use lib.Seq.{drop-cons}
-use Rattle.laws.specs.Every.{never}
+use Rattle.laws.specs.Every.{never, neither}
 use Rattle.laws.specs.Script.{Script, stop, say}
 use Rattle.kinds.specs.Event.{xyE, coordinateE}
 use Rattle.kinds.specs.declared.event.Event.{Event}
@@ -65,10 +65,6 @@ taken-value Absent f h = refl
 taken-value Past f h = absurd (never (sym h))
 taken-value (Present v) f h = refl
 
-pub or-false : (p q : Bool) → (p || q) ≡ false → (p ≡ false) × (q ≡ false)
-or-false true q h = absurd (never (sym h))
-or-false false q h = (refl, h)
-
 module _ (z m t tm : Value) (x y idx : ℕ) {zp mp tp tmp : Bool} (ez : zp ≡ isPast z) (em : mp ≡ isPast m) (et : tp ≡ isPast t) (etm : tmp ≡ isPast tm) where
   pub some-past : (((zp || mp) || tp) || tmp) ≡ true → (k : Script Event) → coordinateS z m t tm x y idx k ≡ stop 7
   unfolding coordinateS
@@ -84,9 +80,9 @@ module _ (z m t tm : Value) (x y idx : ℕ) {zp mp tp tmp : Bool} (ez : zp ≡ i
   none-past : (((zp || mp) || tp) || tmp) ≡ false → (k : Script Event) → coordinateS z m t tm x y idx k ≡ say (coordE x y (valueOf z) (valueOf m) (valueOf t) (valueOf tm) idx) k
   unfolding coordinateS
   none-past h k =
-      let d = or-false ((zp || mp) || tp) tmp h in
-      let c = or-false (zp || mp) tp (d .0) in
-      let b = or-false zp mp (c .0) in
+      let d = neither ((zp || mp) || tp) tmp h in
+      let c = neither (zp || mp) tp (d .0) in
+      let b = neither zp mp (c .0) in
       taken-value z _ (sym ez ∙ b .0) ∙ taken-value m _ (sym em ∙ b .1) ∙ taken-value t _ (sym et ∙ c .1) ∙ taken-value tm _ (sym etm ∙ d .1)
 
   pub all-there : {e : Event} {zb mb tb tmb zw mw tw tmw : ℕ} → (((zp || mp) || tp) || tmp) ≡ false

@@ -12,7 +12,7 @@ ghost use lib.ListN.{length, take, drop};
 ghost use Rattle.laws.specs.Script.{out, run};
 ghost use Rattle.laws.specs.Framed.{framed};
 ghost use Rattle.kinds.specs.Event.{beginE, endE};
-ghost use Rattle.store.specs.Log.{events};
+ghost use Rattle.log.specs.Log.{events};
 ghost use Rattle.coords.specs.Coords.{coordsS, dropped};
 ghost use Rattle.coords.specs.Seen.{lanesIn, windowS};
 
@@ -58,7 +58,7 @@ fn read_coords(
                 count: said,
             };
         };
-        let r = store::say(log, said, e);
+        let r = log::say(log, said, e);
         if r.number != refusal::DONE {
             return r;
         }
@@ -90,7 +90,7 @@ pub fn read_window(
         ⌜ run events (framed (beginE (f .kind) (f .tagged) (f .size) (f .idx)) W (endE (f .kind) (f .tagged) (f .idx)))
         (now (log .entry)) count ≡ out (r .number) (r .count) (now (log .exit)) ⌝ }
 {
-    let b = store::say(log, count, Event::begin(f.kind, f.tagged, f.size, f.idx));
+    let b = log::say(log, count, Event::begin(f.kind, f.tagged, f.size, f.idx));
     if b.number != refusal::DONE {
         return b;
     }
@@ -111,5 +111,5 @@ pub fn read_window(
     if r.number != refusal::DONE {
         return r;
     }
-    store::say(log, r.count, Event::end(f.kind, f.tagged, f.idx))
+    log::say(log, r.count, Event::end(f.kind, f.tagged, f.idx))
 }

@@ -18,7 +18,7 @@ use Rattle.property_writer.specs.Writing.{textBytes, laidDown, propertyBytes as
 use Rattle.property_value.specs.Value.{malformed, textOk}
 use Rattle.property_writer.specs.WritingLaws.{Accepted, accepted, value-number, value-text}
 use Rattle.property_reader.specs.Reading.{propertiesFrom, reading}
-use Rattle.store.specs.Values.{values}
+use Rattle.log.specs.Values.{values}
 use Rattle.properties.specs.ReadBack.{Writable, valueBack, read-back}
 use Rattle.property_reader.specs.ReadingLaws.{read-end, read-whole}
 use Rattle.geometry.specs.Told.{told, Complete, said-complete}

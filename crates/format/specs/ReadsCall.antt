@@ -14,7 +14,7 @@ use Rattle.kinds.specs.declared.geometry.Span.{Span}
 use Rattle.kinds.specs.declared.geometry.Span.the-variants.{Absent, Stretch}
 use Rattle.kinds.specs.declared.geometry.Judged.{Judged}
 use Rattle.kinds.specs.declared.geometry.Judged.the-variants.{Good, Bad}
-use Rattle.store.specs.Log.{events}
+use Rattle.log.specs.Log.{events}
 use Rattle.store.specs.Records.{recordAt}
 use Rattle.store.specs.RecordLaws.{InPool, within}
 use Rattle.store.specs.Lists.{Pools, lentOf, listOf, seen, recordWith}

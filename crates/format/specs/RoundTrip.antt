@@ -12,7 +12,7 @@ use Rattle.laws.specs.Every.{never}
 use Rattle.laws.specs.Cut.{roomOf, Said}
 use Rattle.kinds.specs.declared.flags.Flags.{Flags}
 use Rattle.store.specs.Lists.{Rec, recordWith}
-use Rattle.store.specs.Log.{events}
+use Rattle.log.specs.Log.{events}
 use Rattle.store.specs.Records.{tableGood}
 use Rattle.reader.specs.Reading.{readS}
 use Rattle.writing.specs.declared.state.State.{State}

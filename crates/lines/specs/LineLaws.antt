@@ -9,7 +9,7 @@ use lib.ListN.{length, take, drop, getD, drop-of-length-le}
 use lib.Seq.{take-all}
 use lib.Dec.{leb, ltb}
 use borrow.Author.Tests.{le-leb, lt-leb, ltb-false, leb-false}
-use Rattle.laws.specs.Every.{never}
+use Rattle.laws.specs.Every.{never, neither}
 use Rattle.laws.specs.Script.{Script, stop, _⨟_}
 use Rattle.laws.specs.Framed.{framed}
 use Rattle.kinds.specs.Event.{beginE, endE}
@@ -19,13 +19,12 @@ use Rattle.coords.specs.declared.window.Window.{Window}
 use Rattle.coords.specs.Coords.{Lanes, Coords, dropO, dropped, coordsS, betweenS}
 use Rattle.coords.specs.Seen.{when, lanesIn, coordsIn, windowS, Windowed}
 use Rattle.lines.specs.Lines.{badEnd, stretchS, linesS, flatO, flatS, ringsS, stretchesS, multiLineS, pointS, ifThere}
-use Rattle.coords.specs.PairLaws.{or-false}
 use Rattle.coords.specs.CoordLaws.{drop-one}
 
 -- ---- ends
 pub good-end : (before end : ℕ) {bad : Bool} → bad ≡ badEnd before end → bad ≡ false → (before ≤ end) × (end < 2147483648)
 good-end before end e h =
-    let t = or-false (ltb end before) (leb 2147483648 end) (sym e ∙ h) in
+    let t = neither (ltb end before) (leb 2147483648 end) (sym e ∙ h) in
     (ltb-false end before (t .0), leb-false 2147483648 end (t .1))
 
 -- ---- a stretch

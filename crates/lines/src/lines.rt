@@ -14,7 +14,7 @@ ghost use Prim.Native.Nat.{_≤_, _<_};
 ghost use lib.Dec.{leb};
 ghost use lib.ListN.{length};
 ghost use Rattle.laws.specs.Script.{out, run};
-ghost use Rattle.store.specs.Log.{events};
+ghost use Rattle.log.specs.Log.{events};
 ghost use Rattle.coords.specs.Seen.{coordsIn};
 ghost use Rattle.lines.specs.Lines.{badEnd, stretchS, linesS, flatS, ringsS, stretchesS, multiLineS};
 
@@ -201,7 +201,7 @@ pub fn read_stretches(
         ⌜ run events (stretchesS kind tagged idx C (now (ends .entry))) (now (log .entry)) count ≡ out (r .number) (r .count) (now (log .exit)) ⌝ }
 {
     let size = stretches(ends.len());
-    let b = store::say(log, count, Event::begin(kind, tagged, size, idx));
+    let b = log::say(log, count, Event::begin(kind, tagged, size, idx));
     if b.number != refusal::DONE {
         return b;
     }
@@ -209,7 +209,7 @@ pub fn read_stretches(
     if r.number != refusal::DONE {
         return r;
     }
-    store::say(log, r.count, Event::end(kind, tagged, idx))
+    log::say(log, r.count, Event::end(kind, tagged, idx))
 }
 
 pub fn read_multilinestring(

@@ -9,7 +9,7 @@ ghost use mathlib.Core.List.{[]};
 ghost use Prim.Native.Nat.{_≤_};
 ghost use lib.ListN.{length};
 ghost use Rattle.laws.specs.Script.{out, run};
-ghost use Rattle.store.specs.Log.{events};
+ghost use Rattle.log.specs.Log.{events};
 ghost use Rattle.lines.specs.Lines.{flatS, stretchesS};
 ghost use Rattle.lone_ring.specs.Lone.{loneS, loneCoords};
 
@@ -27,7 +27,7 @@ fn read_lone_pairs(log: &mut [u8], count: usize, xy: &[u64]) -> Answer
                 count: said,
             };
         }
-        let r = store::say(log, said, Event::xy(xy[i], xy[i + 1], n));
+        let r = log::say(log, said, Event::xy(xy[i], xy[i + 1], n));
         if r.number != refusal::DONE {
             return r;
         }
@@ -48,7 +48,7 @@ fn read_lone_line(log: &mut [u8], count: usize, xy: &[u64]) -> Answer
 {
     let kind = geometry_type::LINE_STRING;
     let size = (xy.len() / 2) as u32;
-    let b = store::say(log, count, Event::begin(kind, false, size, 0));
+    let b = log::say(log, count, Event::begin(kind, false, size, 0));
     if b.number != refusal::DONE {
         return b;
     }
@@ -56,7 +56,7 @@ fn read_lone_line(log: &mut [u8], count: usize, xy: &[u64]) -> Answer
     if r.number != refusal::DONE {
         return r;
     }
-    store::say(log, r.count, Event::end(kind, false, 0))
+    log::say(log, r.count, Event::end(kind, false, 0))
 }
 
 // An untagged polygon whose one ring is the whole list.
@@ -66,7 +66,7 @@ pub fn read_lone_ring(log: &mut [u8], count: usize, xy: &[u64], idx: u32) -> Ans
         (now (log .entry)) count ≡ out (r .number) (r .count) (now (log .exit)) ⌝ }
 {
     let kind = geometry_type::POLYGON;
-    let b = store::say(log, count, Event::begin(kind, false, 1, idx));
+    let b = log::say(log, count, Event::begin(kind, false, 1, idx));
     if b.number != refusal::DONE {
         return b;
     }
@@ -74,5 +74,5 @@ pub fn read_lone_ring(log: &mut [u8], count: usize, xy: &[u64], idx: u32) -> Ans
     if r.number != refusal::DONE {
         return r;
     }
-    store::say(log, r.count, Event::end(kind, false, idx))
+    log::say(log, r.count, Event::end(kind, false, idx))
 }

@@ -19,7 +19,7 @@ ghost use lib.ListN.{length};
 ghost use Rattle.laws.specs.Script.{out, run};
 ghost use Rattle.kinds.specs.Geometry.{startOf, countOf};
 ghost use Rattle.store.specs.Lists.{poolsOf, listOf, listsOf};
-ghost use Rattle.store.specs.Log.{events};
+ghost use Rattle.log.specs.Log.{events};
 ghost use Rattle.coords.specs.Coords.{coordsOf};
 ghost use Rattle.lines.specs.Lines.{orNone};
 ghost use Rattle.coords.specs.Seen.{coordsIn};

@@ -72,6 +72,6 @@ partOf kind p = record { kind = kind; xy = listed (p .xy); ends = shown (p .ends
 unfoldable pub rootOver : ℕ → ℕ → Geometry
 rootOver kind parts = record { kind = kind; xy = Absent; ends = Absent; z = Absent; m = Absent; t = Absent; tm = Absent; parts = Stretch 1 parts }
 
--- ---- next: 15, 12. Parts and properties are emptied, the pending words are moved to the front; other words stay
+-- the pending words, moved to the front
 abbrev pub fronted : Words → Words
 fronted p = words 0 (p .count)

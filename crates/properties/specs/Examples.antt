@@ -6,7 +6,7 @@ use Prim.Native.Nat.{ℕ}
 use lib.ListN.{replicate}
 use Rattle.laws.specs.Script.{out, run, put, roomAt}
 use Rattle.event_layout.specs.Value.{valueBytes}
-use Rattle.store.specs.Values.{values}
+use Rattle.log.specs.Values.{values}
 use Rattle.utf8.specs.Utf8.{has, rowOf, begins, charLength, firstBad, isUtf8}
 use Rattle.property_value.specs.Column.{widthOf, isText}
 use Rattle.property_value.specs.Value.{wordOf, textOk}

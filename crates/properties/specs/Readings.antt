@@ -13,7 +13,7 @@ use Rattle.laws.specs.Bytes.{wordAt, Bytes, unle-lt, part-bytes}
 use Rattle.laws.specs.Script.{Script, stop, say, out, run}
 use Rattle.laws.specs.Cut.{numberOf, recordsOf, roomOf, said}
 use Rattle.kinds.specs.declared.value.Value.{Value}
-use Rattle.store.specs.Values.{values}
+use Rattle.log.specs.Values.{values}
 use Rattle.property_reader.specs.declared.item.Item.{Item}
 use Rattle.property_reader.specs.declared.item.Item.the-variants.{End, Refused, Skipped, Found}
 use Rattle.property_reader.specs.Reading.{itemAt, onItem, propertiesUpTo, propertiesFrom, reading, says, stopped}

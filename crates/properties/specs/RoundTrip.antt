@@ -33,10 +33,10 @@ bytesOf p = propertyBytes (p .column) (p .kind) (p .bits) (p .text)
 -- ---- a row of writes, each into what the last left or into any buffer that agrees with it on what is used
 pub data Wrote : List ℕ → ℕ → List Property → List ℕ → ℕ → Type 0 where
   none : {buffer : List ℕ} {used : ℕ} → Wrote buffer used [] buffer used
-  one : {buffer after : List ℕ} {used then : ℕ} {p : Property} {ps : List Property} (lent : List ℕ)
-      → take used lent ≡ take used buffer
-      → refusalOf false used (p .column) (p .kind) (p .bits) (p .text) (length lent) ≡ 0
-      → Wrote (bytesAfter false used (p .column) (p .kind) (p .bits) (p .text) lent) (putOf false used (p .column) (p .kind) (p .bits) (p .text) lent .used) ps after then
+  one : {buffer after : List ℕ} {used then : ℕ} {p : Property} {ps : List Property} (lends : List ℕ)
+      → take used lends ≡ take used buffer
+      → refusalOf false used (p .column) (p .kind) (p .bits) (p .text) (length lends) ≡ 0
+      → Wrote (bytesAfter false used (p .column) (p .kind) (p .bits) (p .text) lends) (putOf false used (p .column) (p .kind) (p .bits) (p .text) lends .used) ps after then
       → Wrote buffer used (p ∷ ps) after then
 
 -- the column list gives each property's column its type
@@ -71,21 +71,21 @@ writable columns p a listed typed =
     }
 
 -- ---- what one write leaves
-module _ (used : ℕ) (p : Property) (lent : List ℕ) (done : refusalOf false used (p .column) (p .kind) (p .bits) (p .text) (length lent) ≡ 0) where
+module _ (used : ℕ) (p : Property) (lends : List ℕ) (done : refusalOf false used (p .column) (p .kind) (p .bits) (p .text) (length lends) ≡ 0) where
   abbrev left : List ℕ
-  left = bytesAfter false used (p .column) (p .kind) (p .bits) (p .text) lent
+  left = bytesAfter false used (p .column) (p .kind) (p .bits) (p .text) lends
 
-  fits : Accepted false used (p .column) (p .kind) (p .bits) (p .text) (length lent)
-  fits = accepted false used (p .column) (p .kind) (p .bits) (p .text) (length lent) done
+  fits : Accepted false used (p .column) (p .kind) (p .bits) (p .text) (length lends)
+  fits = accepted false used (p .column) (p .kind) (p .bits) (p .text) (length lends) done
 
-  grown : putOf false used (p .column) (p .kind) (p .bits) (p .text) lent .used ≡ used + length (bytesOf p)
-  grown = ap (λ (r : PropertyPut). r .used) (put-done false used (p .column) (p .kind) (p .bits) (p .text) lent done)
+  grown : putOf false used (p .column) (p .kind) (p .bits) (p .text) lends .used ≡ used + length (bytesOf p)
+  grown = ap (λ (r : PropertyPut). r .used) (put-done false used (p .column) (p .kind) (p .bits) (p .text) lends done)
 
-  long : length left ≡ length lent
-  long = ap length (bytes-done false used (p .column) (p .kind) (p .bits) (p .text) lent done) ∙ length-sets lent used (bytesOf p)
+  long : length left ≡ length lends
+  long = ap length (bytes-done false used (p .column) (p .kind) (p .bits) (p .text) lends done) ∙ length-sets lends used (bytesOf p)
 
-  front : take (used + length (bytesOf p)) left ≡ take used lent ++ bytesOf p
-  front = used-then false used (p .column) (p .kind) (p .bits) (p .text) lent done
+  front : take (used + length (bytesOf p)) left ≡ take used lends ++ bytesOf p
+  front = used-then false used (p .column) (p .kind) (p .bits) (p .text) lends done
 
 -- ---- the bytes that are used at the end
 record Used (buffer : List ℕ) (used : ℕ) (ps : List Property) (after : List ℕ) (then : ℕ) : Type 0 where
@@ -95,12 +95,12 @@ record Used (buffer : List ℕ) (used : ℕ) (ps : List Property) (after : List 
 
 used-bytes : {buffer after : List ℕ} {used then : ℕ} {ps : List Property} → Wrote buffer used ps after then → used ≤ length buffer → used ≤ 65536 → Used buffer used ps after then
 used-bytes {buffer} {used = used} none h k = record { bytes = sym (append-nil (take used buffer)); within = h; usable = k }
-used-bytes (one {buffer = buffer} {used = used} {p = p} {ps = ps} lent same done rest) h k =
-    let a = fits used p lent done in
-    let g = grown used p lent done in
-    let later = used-bytes rest (omega (arith, long used p lent done, a .room)) (omega (arith, a .usable)) in
+used-bytes (one {buffer = buffer} {used = used} {p = p} {ps = ps} lends same done rest) h k =
+    let a = fits used p lends done in
+    let g = grown used p lends done in
+    let later = used-bytes rest (omega (arith, long used p lends done, a .room)) (omega (arith, a .usable)) in
     record {
-      bytes = later .bytes ∙ rw (g, front used p lent done, same) (append-assoc (take used buffer) (bytesOf p) (joined ps));
+      bytes = later .bytes ∙ rw (g, front used p lends done, same) (append-assoc (take used buffer) (bytesOf p) (joined ps));
       within = later .within;
       usable = later .usable;
     }
@@ -121,8 +121,8 @@ module _ (columns : List ℕ) (last : ℕ) (none-named : 65536 ≤ last) where
   read-from : {buffer after : List ℕ} {used then : ℕ} {ps : List Property} → Wrote buffer used ps after then → Typed columns ps
       → (before : List ℕ) → propertiesFrom (before ++ joined ps) columns last (length before) ≡ saying (valuesFrom (length before) ps)
   read-from none none before = rw (append-nil before) (read-end before columns last)
-  read-from (one {used = used} lent same done rest) (one {p = p} {ps = ps} listed typed others) before =
-      let a = fits used p lent done in
+  read-from (one {used = used} lends same done rest) (one {p = p} {ps = ps} listed typed others) before =
+      let a = fits used p lends done in
       let here : propertiesFrom (before ++ (bytesOf p ++ joined ps)) columns last (length before + length (bytesOf p)) ≡ saying (valuesFrom (length before + length (bytesOf p)) ps)
       = rw (append-assoc before (bytesOf p) (joined ps), length-append before (bytesOf p)) at (read-from rest others (before ++ bytesOf p)) in
       next p ps before (writable columns p a listed typed) here
@@ -147,12 +147,12 @@ name = record { column = 1; kind = 11; bits = 0; text = 0x61 ∷ [] }
 abbrev fresh : List ℕ
 fresh = replicate 20 0xaa
 
-abbrev lent-again : List ℕ
-lent-again = 0 ∷ 0 ∷ 7 ∷ 0 ∷ 0 ∷ 0 ∷ replicate 10 0xbb
+abbrev lends-again : List ℕ
+lends-again = 0 ∷ 0 ∷ 7 ∷ 0 ∷ 0 ∷ 0 ∷ replicate 10 0xbb
 
-a-row : Wrote fresh 0 (int ∷ name ∷ []) (bytesAfter false 6 1 11 0 (0x61 ∷ []) lent-again) 13
+a-row : Wrote fresh 0 (int ∷ name ∷ []) (bytesAfter false 6 1 11 0 (0x61 ∷ []) lends-again) 13
 unfolding refusalOf malformed textOk putOf bytesAfter propertyBytes laidDown textBytes widthOf isText isUtf8 firstBad run charLength rowOf begins has
-a-row = one fresh refl refl (one lent-again refl refl none)
+a-row = one fresh refl refl (one lends-again refl refl none)
 
 a-row-typed : Typed (5 ∷ 11 ∷ []) (int ∷ name ∷ [])
 a-row-typed = one (lit< tt) refl (one (lit< tt) refl none)

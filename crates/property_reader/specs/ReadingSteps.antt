@@ -11,7 +11,7 @@ use borrow.Author.Tests.{ltb-true, ltb-false, eq-eqb, ne-eqb}
 use Rattle.laws.specs.Bytes.{wordAt, part-cons}
 use Rattle.laws.specs.Script.{Script, stop, one, out, run, run-stop, _⨟_, seq-done, seq-refused}
 use Rattle.kinds.specs.declared.value.Value.{Value}
-use Rattle.store.specs.Values.{values}
+use Rattle.log.specs.Values.{values}
 use Rattle.property_reader.specs.declared.item.Item.{Item}
 use Rattle.property_reader.specs.declared.item.Item.the-variants.{End, Refused, Skipped, Found}
 use Rattle.property_reader.specs.Reading.{itemAt, onItem, propertiesFrom, says, stopped}

@@ -4,12 +4,12 @@ mod item;
 use item::Item;
 use item::item_at;
 use kinds::refusal;
+use log::say_value;
 use property_value::usable_length;
-use store::say_value;
 ghost use mathlib.Core.Path.{_≡_};
 ghost use mathlib.Core.Bool.{false};
 ghost use Rattle.laws.specs.Script.{out, run};
-ghost use Rattle.store.specs.Values.{values};
+ghost use Rattle.log.specs.Values.{values};
 ghost use Rattle.property_reader.specs.Reading.{propertiesFrom, reading, stopped};
 
 // The answer's number and count of log records, and whether the reading stopped after the column that the caller named.

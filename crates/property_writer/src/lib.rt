@@ -9,6 +9,7 @@ use property_value::text_ok;
 use property_value::usable_length;
 use property_value::width;
 ghost use mathlib.Core.Path.{_≡_};
+ghost use Rattle.property_value.specs.Value.{textOk};
 ghost use Rattle.property_writer.specs.Writing.{refusalOf, putOf, bytesAfter, propertyLength};
 
 // The refusal's number, 0 where the property was written, and how many bytes of the buffer are used then.
@@ -62,13 +63,23 @@ fn refusal_of(
     if is_malformed(kind, bits) {
         return refusal::MALFORMED;
     }
-    if !text_ok(kind, text) {
+    if !is_spelt(kind, text) {
         return refusal::NOT_UTF8;
     }
     if used as usize + property_length(kind, text) > usable_length(lent) {
         return refusal::NO_ROOM;
     }
     refusal::DONE
+}
+
+// A number has no text, and is not handed to the check of one.
+fn is_spelt(kind: u8, text: &[u8]) -> bool
+    ensures { λ r. ⌜ r ≡ textOk kind (now (text .entry)) ⌝ }
+{
+    if kind < column_type::STRING {
+        return true;
+    }
+    text_ok(kind, text)
 }
 
 fn property_length(kind: u8, text: &[u8]) -> usize

@@ -123,7 +123,7 @@ module _ (part : ℕ → ℕ → Script Event) where
   parts-next (suc k) n i h = let e : suc k - 1 ≡ k = omega arith in rw e
 
 -- ---- what the code finds, as the definition has it
-module _ (table : List ℕ) (P : Pools) (n : ℕ) {lent : Lent} {o : Judged} (all : lent ≡ lentOf P) (at : o ≡ recordAt table lent n) where
+module _ (table : List ℕ) (P : Pools) (n : ℕ) {pools : Lent} {o : Judged} (all : pools ≡ lentOf P) (at : o ≡ recordAt table pools n) where
   at-pools : o ≡ recordAt table (lentOf P) n
   at-pools = at ∙ ap (λ (l : Lent). recordAt table l n) all
 

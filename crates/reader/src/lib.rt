@@ -22,7 +22,7 @@ ghost use lib.Dec.{eqb};
 ghost use Rattle.laws.specs.Script.{out, run};
 ghost use Rattle.laws.specs.Cut.{Said};
 ghost use Rattle.store.specs.Lists.{poolsOf, partsOf, listsOf, recordWith};
-ghost use Rattle.store.specs.Log.{events};
+ghost use Rattle.log.specs.Log.{events};
 ghost use Rattle.own_lists.specs.Own.{InPools};
 ghost use Rattle.reader.specs.Reading.{spanS, readS};
 ghost use Rattle.walks.specs.Walks.{Typed};
@@ -107,7 +107,7 @@ fn read_geometrycollection(
             count,
         };
     };
-    let b = store::say(log, count, Event::begin(kind, false, size, idx));
+    let b = log::say(log, count, Event::begin(kind, false, size, idx));
     if b.number != refusal::DONE {
         return b;
     }
@@ -137,7 +137,7 @@ fn read_geometrycollection(
         said = r.count;
         i += 1;
     }
-    store::say(log, said, Event::end(kind, false, idx))
+    log::say(log, said, Event::end(kind, false, idx))
 }
 
 // The record n as part idx: one level below the record that has it.
@@ -175,8 +175,8 @@ fn read_part(
         let end = from + words as usize;
         return lone_ring::read_lone_ring(log, count, &xy[from..end], idx);
     }
-    let lent = Lent::new(xy.len(), ends.len(), z.len(), m.len(), t.len(), tm.len());
-    match store::record_at(table, lent, n) {
+    let pools = Lent::new(xy.len(), ends.len(), z.len(), m.len(), t.len(), tm.len());
+    match store::record_at(table, pools, n) {
         Judged::Good(g) => {
             let walk = walk_in(role, g.kind);
             read_geometry_n(
@@ -231,8 +231,8 @@ pub fn read(
         (poolsOf (now (xy .entry)) (now (ends .entry)) (now (z .entry)) (now (m .entry)) (now (t .entry)) (now (tm .entry)))) declared)
         (now (log .entry)) (r .number) (r .count) (now (log .exit)) ⌝ }
 {
-    let lent = Lent::new(xy.len(), ends.len(), z.len(), m.len(), t.len(), tm.len());
-    match store::record_at(table, lent, 0) {
+    let pools = Lent::new(xy.len(), ends.len(), z.len(), m.len(), t.len(), tm.len());
+    match store::record_at(table, pools, 0) {
         Judged::Good(g) => {
             let walk = walk_of(type_of(declared, g.kind), g.kind);
             read_geometry_n(

@@ -45,8 +45,8 @@ pub fn box_at(
     ensures { λ r. let P = poolsOf (now (xy .entry)) (now (ends .entry)) (now (z .entry)) (now (m .entry)) (now (t .entry)) (now (tm .entry)) in
         ⌜ r ≡ boxedOf P (recordAt (now (table .entry)) (lentOf P) n) ⌝ }
 {
-    let lent = Lent::new(xy.len(), ends.len(), z.len(), m.len(), t.len(), tm.len());
-    match store::record_at(table, lent, n) {
+    let pools = Lent::new(xy.len(), ends.len(), z.len(), m.len(), t.len(), tm.len());
+    match store::record_at(table, pools, n) {
         Judged::Bad => Boxed {
             number: refusal::BAD_RECORD,
             bbox: Box::empty(),

@@ -11,8 +11,8 @@ use Rattle.laws.specs.Every.{never, both}
 use Rattle.kinds.specs.Event.{WellFormed, isTaggedType}
 use Rattle.kinds.specs.declared.event.Event.{Event}
 use Rattle.kinds.specs.declared.geometry.Lent.{Lent}
-use Rattle.store.specs.Log.{heard}
-use Rattle.store.specs.LogLaws.{HeardPair, HeardCoordinate, HeardQuiet}
+use Rattle.log.specs.Log.{heard}
+use Rattle.log.specs.LogLaws.{HeardPair, HeardCoordinate, HeardQuiet}
 use Rattle.asking.specs.declared.ask.Added.{Added}
 use Rattle.asking.specs.declared.ask.Ask.{Ask}
 use Rattle.asking.specs.declared.set_type.Typed.{Typed}

@@ -14,8 +14,8 @@ use Rattle.kinds.specs.Lanes.{xyL, endsL, zL, mL, tL, tmL}
 use Rattle.kinds.specs.declared.event.Event.{Event}
 use Rattle.kinds.specs.declared.geometry.Lent.{Lent}
 use Rattle.store.specs.Lists.{poolsOf, lentOf}
-use Rattle.store.specs.Log.{heard}
-use Rattle.store.specs.LogLaws.{HeardPair, HeardCoordinate, HeardQuiet}
+use Rattle.log.specs.Log.{heard}
+use Rattle.log.specs.LogLaws.{HeardPair, HeardCoordinate, HeardQuiet}
 use Rattle.store.specs.Records.{recordsLent}
 use Rattle.asking.specs.declared.ask.Added.{Added}
 use Rattle.asking.specs.declared.ask.Ask.{Ask}

@@ -42,11 +42,19 @@ pub struct Reached {
 fn values_room(p: Pending, a: Added, xy: usize, z: usize, m: usize, t: usize, tm: usize) -> bool
     ensures { λ r. ⌜ r ≡ valuesRoom p a xy z m t tm ⌝ }
 {
-    lane_room(p.xy, a.xy, Words::PAIR, xy, usable::XY_WORDS)
-        & lane_room(p.z, a.z, Words::ONE, z, usable::POOL_WORDS)
-        & lane_room(p.m, a.m, Words::ONE, m, usable::POOL_WORDS)
-        & lane_room(p.t, a.t, Words::ONE, t, usable::POOL_WORDS)
-        & lane_room(p.tm, a.tm, Words::ONE, tm, usable::POOL_WORDS)
+    if !lane_room(p.xy, a.xy, Words::PAIR, xy, usable::XY_WORDS) {
+        return false;
+    }
+    if !lane_room(p.z, a.z, Words::ONE, z, usable::POOL_WORDS) {
+        return false;
+    }
+    if !lane_room(p.m, a.m, Words::ONE, m, usable::POOL_WORDS) {
+        return false;
+    }
+    if !lane_room(p.t, a.t, Words::ONE, t, usable::POOL_WORDS) {
+        return false;
+    }
+    lane_room(p.tm, a.tm, Words::ONE, tm, usable::POOL_WORDS)
 }
 
 // Lays a coordinate down behind the pending words: what is pending then.
@@ -99,7 +107,7 @@ pub fn take_plain(
     while taken < whole {
         let begin = 64 * taken;
         let end = begin + 64;
-        let heard = store::hear(&bytes[begin..end]);
+        let heard = log::hear(&bytes[begin..end]);
         match heard {
             Heard::Pair { x, y } => {
                 if !(ready & lane_room(pending.xy, true, Words::PAIR, xy.len(), usable::XY_WORDS)) {

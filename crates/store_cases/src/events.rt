@@ -37,7 +37,7 @@ fn number_of(heard: Heard) -> usize {
 }
 
 pub fn heard(case: &[u8]) -> u8 {
-    let heard = store::hear(bytes_from(case, HEARD_EVENT));
+    let heard = log::hear(bytes_from(case, HEARD_EVENT));
     unless(number_of(heard) == number(case, NUMBER), difference::NUMBER)
 }
 
@@ -74,7 +74,7 @@ fn event_of(record: &[u8]) -> Event {
 }
 
 fn say(log: &mut [u8], e: Event, case: &[u8]) -> u8 {
-    let answer = store::say(log, word(case, COUNT) as usize, e);
+    let answer = log::say(log, word(case, COUNT) as usize, e);
     differences(answer, log, case)
 }
 

@@ -8,7 +8,7 @@ ghost use mathlib.Core.Path.{_≡_};
 ghost use Prim.Native.Nat.{_≤_};
 ghost use lib.ListN.{length};
 ghost use Rattle.laws.specs.Script.{out, run};
-ghost use Rattle.store.specs.Log.{events};
+ghost use Rattle.log.specs.Log.{events};
 ghost use Rattle.coords.specs.Seen.{coordsIn};
 ghost use Rattle.lines.specs.Lines.{triangleAt, trianglesS, triangleS, tinS};
 
@@ -31,7 +31,7 @@ fn read_triangle_at(
     ensures { λ r. let C = coordsIn seen (now (xy .entry)) (now (z .entry)) (now (m .entry)) (now (t .entry)) (now (tm .entry)) in
         ⌜ run events (triangleAt C tagged before end idx) (now (log .entry)) count ≡ out (r .number) (r .count) (now (log .exit)) ⌝ }
 {
-    let b = store::say(
+    let b = log::say(
         log,
         count,
         Event::begin(geometry_type::TRIANGLE, tagged, 1, idx),
@@ -43,7 +43,7 @@ fn read_triangle_at(
     if r.number != refusal::DONE {
         return r;
     }
-    store::say(
+    log::say(
         log,
         r.count,
         Event::end(geometry_type::TRIANGLE, tagged, idx),
@@ -134,7 +134,7 @@ pub fn read_tin(
         ⌜ run events (tinS C (now (ends .entry)) idx) (now (log .entry)) count ≡ out (r .number) (r .count) (now (log .exit)) ⌝ }
 {
     let size = lines::stretches(ends.len());
-    let b = store::say(
+    let b = log::say(
         log,
         count,
         Event::begin(geometry_type::TIN, false, size, idx),
@@ -146,5 +146,5 @@ pub fn read_tin(
     if r.number != refusal::DONE {
         return r;
     }
-    store::say(log, r.count, Event::end(geometry_type::TIN, false, idx))
+    log::say(log, r.count, Event::end(geometry_type::TIN, false, idx))
 }

@@ -12,8 +12,8 @@ use Rattle.kinds.specs.Event.{WellFormed, Malformed}
 use Rattle.kinds.specs.declared.event.Event.{Event}
 use Rattle.kinds.specs.declared.geometry.Lent.{Lent}
 use Rattle.store.specs.Lists.{lentOf}
-use Rattle.store.specs.Log.{heard}
-use Rattle.store.specs.LogLaws.{not-whole}
+use Rattle.log.specs.Log.{heard}
+use Rattle.log.specs.LogLaws.{not-whole}
 use Rattle.store.specs.Records.{recordsLent}
 use Rattle.runs.specs.declared.took.Took.{Took}
 use Rattle.pending.specs.declared.words.Pending.{Pending}

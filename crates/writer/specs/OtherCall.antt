@@ -10,7 +10,7 @@ use Rattle.kinds.specs.Event.{WellFormed}
 use Rattle.kinds.specs.Lanes.{endsL}
 use Rattle.kinds.specs.declared.event.Event.{Event}
 use Rattle.store.specs.Lists.{poolsOf, lentOf}
-use Rattle.store.specs.Log.{heard}
+use Rattle.log.specs.Log.{heard}
 use Rattle.store.specs.Records.{recordsLent}
 use Rattle.asking.specs.declared.ask.Ask.{Ask}
 use Rattle.asking.specs.declared.set_type.Typed.{Typed}

@@ -1,6 +1,5 @@
 // The geometry writer: events to tree, over the store.
 mod many;
-mod other;
 mod properties;
 
 use asking::typing::Typing;
@@ -66,7 +65,7 @@ pub fn event(
         let after = memOf (now (table .exit)) (now (xy .exit)) (now (ends .exit)) (now (z .exit)) (now (m .exit)) (now (t .exit)) (now (tm .exit)) in
         ⌜ outcome r after ≡ eventCall s before (now (bytes .entry)) ⌝ }
 {
-    let bare = store::hear_bare(bytes);
+    let bare = log::hear_bare(bytes);
     if let Bare::Pair { x, y } = bare {
         let pools = Lent::new(xy.len(), ends.len(), z.len(), m.len(), t.len(), tm.len());
         let records = store::records_lent(table);

@@ -1,27 +1,17 @@
 // Many events in one call.
-use crate::other::take_other;
+use frames::take_other;
 use kinds::geometry::Lent;
 use kinds::refusal;
 use runs::Stop;
 use runs::Took;
 use runs::blocked_number;
+use runs::rest_number;
 use runs::take_plain;
 use writing::ready::is_ready;
 use writing::state::State;
 ghost use mathlib.Core.Path.{_≡_};
 ghost use Rattle.writing.specs.State.{memOf};
-ghost use Rattle.runs.specs.Events.{progress, eventsCall, restNumber};
-
-// A rest that is no whole record is malformed.
-fn rest_number(length: usize) -> u8
-    ensures { λ r. ⌜ r ≡ restNumber length ⌝ }
-{
-    if length % 64 == 0 {
-        refusal::DONE
-    } else {
-        refusal::MALFORMED
-    }
-}
+ghost use Rattle.runs.specs.Events.{progress, eventsCall};
 
 // Takes events' records up to the first that is refused: runs of plain events, and between them the others one by one.
 // Refused: 11, 15, 5, 12.

@@ -10,7 +10,7 @@ use lib.ListN.{replicate}
 use Rattle.kinds.specs.Event.{EventSized, beginE, endE, xyE, wellFormed}
 use Rattle.kinds.specs.declared.event.Event.{Event}
 use Rattle.store.specs.Lists.{Rec, poolsOf, recordWith}
-use Rattle.store.specs.Log.{events, hear-said}
+use Rattle.log.specs.Log.{events, hear-said}
 use Rattle.store.specs.Records.{tableGood}
 use Rattle.writing.specs.State.{Mem, memory}
 use Rattle.asking.specs.SetType.{setType, unknownType, collected}

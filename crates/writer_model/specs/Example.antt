@@ -11,7 +11,7 @@ use Rattle.kinds.specs.Event.{beginE, endE, xyE, wellFormed}
 use Rattle.kinds.specs.Lanes.{xyL, endsL, zL, mL, tL, tmL}
 use Rattle.kinds.specs.declared.event.Event.{Event}
 use Rattle.store.specs.Lists.{poolsOf, lentOf, recordWith}
-use Rattle.store.specs.Log.{events}
+use Rattle.log.specs.Log.{events}
 use Rattle.store.specs.Records.{recordsLent}
 use Rattle.writing.specs.declared.state.State.{State}
 use Rattle.pending.specs.Words.{words}

@@ -10,7 +10,7 @@ use Rattle.kinds.specs.Event.{wellFormed, EventSized}
 use Rattle.kinds.specs.declared.event.Event.{Event}
 use Rattle.kinds.specs.declared.geometry.Lent.{Lent}
 use Rattle.store.specs.Lists.{lentOf}
-use Rattle.store.specs.Log.{events, hear-said}
+use Rattle.log.specs.Log.{events, hear-said}
 use Rattle.store.specs.Records.{recordsLent}
 use Rattle.writing.specs.declared.state.State.{State}
 use Rattle.writing.specs.declared.state.Wrote.{Wrote}

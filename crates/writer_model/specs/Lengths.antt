@@ -11,7 +11,7 @@ use Rattle.kinds.specs.declared.event.Event.{Event}
 use Rattle.kinds.specs.Event.{Parsed}
 use Rattle.kinds.specs.Event.{WellFormed, Malformed}
 use Rattle.store.specs.Lists.{lentOf, stretch-length}
-use Rattle.store.specs.Log.{heard}
+use Rattle.log.specs.Log.{heard}
 use Rattle.store.specs.RecordLaws.{put-length}
 use Rattle.writing.specs.declared.state.State.{State}
 use Rattle.asking.specs.declared.set_type.Typed.{Typed}

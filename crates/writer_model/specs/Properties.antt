@@ -5,7 +5,7 @@ use Prim.Native.Nat.{ℕ}
 use native.Mathlib.Omega.{arith}
 use Rattle.kinds.specs.Event.{Parsed}
 use Rattle.kinds.specs.Event.{WellFormed, Malformed}
-use Rattle.store.specs.Log.{heard}
+use Rattle.log.specs.Log.{heard}
 use Rattle.asking.specs.declared.typing.Typing.{Typing}
 use Rattle.writing.specs.declared.state.State.{State}
 use Rattle.asking.specs.declared.set_type.Typed.{Typed}

@@ -10,7 +10,7 @@ use Rattle.laws.specs.Every.{both}
 use Rattle.kinds.specs.Event.{Parsed, WellFormed, Malformed}
 use Rattle.kinds.specs.declared.geometry.Lent.{Lent}
 use Rattle.store.specs.Lists.{lentOf}
-use Rattle.store.specs.Log.{heard}
+use Rattle.log.specs.Log.{heard}
 use Rattle.store.specs.Records.{recordsLent}
 use Rattle.asking.specs.declared.ask.Ask.{Ask}
 use Rattle.asking.specs.declared.set_type.Typed.{Typed}

@@ -11,7 +11,7 @@ use Rattle.kinds.specs.declared.event.Event.{Event}
 use Rattle.kinds.specs.declared.geometry.Geometry.{Geometry}
 use Rattle.kinds.specs.declared.geometry.Lent.{Lent}
 use Rattle.store.specs.Lists.{Pools, lentOf}
-use Rattle.store.specs.Log.{heard}
+use Rattle.log.specs.Log.{heard}
 use Rattle.store.specs.Records.{recordsLent, putRecord}
 use Rattle.asking.specs.declared.typing.Typing.{Typing}
 use Rattle.writing.specs.declared.state.State.{State}
@@ -100,6 +100,7 @@ decideFinish s records pools = cond (s .waiting) (wrote 15 s) (roomOr s (hasRoom
 unfoldable pub finishCall : State → Mem → Outcome
 finishCall s k = settled (decideFinish s (recordsLent (k .table)) (lentOf (k .pools))) k (memory (putRecord (k .table) 0 (rootOf s)) (k .pools))
 
+-- ---- next: 15, 12. Parts and properties are emptied, the pending words are moved to the front; other words stay
 unfoldable pub renewed : State → State
 renewed s = withPending (withProperties (withParts (withWaiting s false) 0) 0) (pendingOf (λ n. fronted (wordsIn (s .pending) n)))
 

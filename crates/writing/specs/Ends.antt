@@ -8,7 +8,7 @@ use Rattle.kinds.specs.Lanes.{xyL, endsL, zL, mL, tL, tmL}
 use Rattle.kinds.specs.declared.event.Event.{Event}
 use Rattle.kinds.specs.declared.geometry.Lent.{Lent}
 use Rattle.store.specs.Lists.{lentOf}
-use Rattle.store.specs.Log.{heard}
+use Rattle.log.specs.Log.{heard}
 use Rattle.store.specs.Records.{recordsLent, putRecord}
 use Rattle.writing.specs.declared.state.State.{State}
 use Rattle.writing.specs.declared.state.Wrote.{Wrote}

@@ -9,7 +9,7 @@ use Rattle.kinds.specs.Lanes.{usable, lentIn}
 use Rattle.kinds.specs.Event.{Parsed, WellFormed, Malformed}
 use Rattle.kinds.specs.declared.geometry.Lent.{Lent}
 use Rattle.store.specs.Lists.{lentOf}
-use Rattle.store.specs.Log.{heard}
+use Rattle.log.specs.Log.{heard}
 use Rattle.store.specs.Records.{recordsLent}
 use Rattle.asking.specs.declared.typing.Typing.{Typing}
 use Rattle.pending.specs.declared.words.Pending.{Pending}

@@ -8,8 +8,8 @@ use Rattle.bintolage.proofs.bintolage_event.Statement.{statement}
 use Rattle.bintolage.proofs.bintolage_event.Tie as tie
 
 -- the lent memory
-abbrev lent : tie.Start → Mem
-lent c = memOf (now (c .args .table)) (now (c .args .xy)) (now (c .args .ends)) (now (c .args .z)) (now (c .args .m)) (now (c .args .t)) (now (c .args .tm))
+abbrev lends : tie.Start → Mem
+lends c = memOf (now (c .args .table)) (now (c .args .xy)) (now (c .args .ends)) (now (c .args .z)) (now (c .args .m)) (now (c .args .t)) (now (c .args .tm))
 
 pub bintolage-event-spec : {M : Type 1} → statement M
 bintolage-event-spec =
@@ -28,4 +28,4 @@ bintolage-event-spec =
     (λ c. let start = c .before .before .before .before .before .before .before .before .before .before .before .before .before .before .before .before .before .before .before .before .before .before .before .before .before .before .before .before .before .before .before .before .before .before in
     let event = c .before .before .before .before .before .before .before .before .before .before .before .before .before .before .before .before .event in
     let known = c .before .before .before .before .before .before .before .before .before .before .before .before .before .before .before .before .before .before .before .before .before .before .before .before in
-    kept-call (λ (s : State). eventCall s (lent start) (now (start .args .event))) (now (start .args .state)) _ (known .state-of .ensures) (event .ensures) (c .keep .ensures .0) (c .keep .ensures .1)))
+    kept-call (λ (s : State). eventCall s (lends start) (now (start .args .event))) (now (start .args .state)) _ (known .state-of .ensures) (event .ensures) (c .keep .ensures .0) (c .keep .ensures .1)))

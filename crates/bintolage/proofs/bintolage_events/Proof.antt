@@ -8,8 +8,8 @@ use Rattle.bintolage.proofs.bintolage_events.Statement.{statement}
 use Rattle.bintolage.proofs.bintolage_events.Tie as tie
 
 -- the lent memory
-abbrev lent : tie.Start → Mem
-lent c = memOf (now (c .args .table)) (now (c .args .xy)) (now (c .args .ends)) (now (c .args .z)) (now (c .args .m)) (now (c .args .t)) (now (c .args .tm))
+abbrev lends : tie.Start → Mem
+lends c = memOf (now (c .args .table)) (now (c .args .xy)) (now (c .args .ends)) (now (c .args .z)) (now (c .args .m)) (now (c .args .t)) (now (c .args .tm))
 
 pub bintolage-events-spec : {M : Type 1} → statement M
 bintolage-events-spec =
@@ -25,7 +25,8 @@ bintolage-events-spec =
     (λ c. search needs)
     (λ c. search needs)
     (λ c. search needs)
-    (λ c. let start = c .before .before .before .before .before .before .before .before .before .before .before .before .before .before .before .before .before .before .before .before .before .before .before .before .before .before .before .before .before .before .before .before .before .before in
-    let events = c .before .before .before .before .before .before .before .before .before .before .before .before .before .before .before .before .events in
-    let known = c .before .before .before .before .before .before .before .before .before .before .before .before .before .before .before .before .before .before .before .before .before .before .before .before in
-    taken-call (λ (s : State). eventsCall s (lent start) (now (start .args .records))) (now (start .args .state)) _ (known .state-of .ensures) (events .ensures) (c .keep-all .ensures .0) (c .keep-all .ensures .1)))
+    (λ c. let start = c .before .before .before .before .before .before .before .before .before .before .before .before .before .before .before .before .before .before .before .before .before .before .before .before .before .before .before .before .before .before .before .before .before .before .before in
+    let events = c .before .before .before .before .before .before .before .before .before .before .before .before .before .before .before .before .before .events in
+    let known = c .before .before .before .before .before .before .before .before .before .before .before .before .before .before .before .before .before .before .before .before .before .before .before .before .before in
+    let kept = c .keep-all .ensures in
+    taken-call (λ (s : State). eventsCall s (lends start) (now (start .args .records))) (now (start .args .state)) _ (known .state-of .ensures) (events .ensures) (kept .0) (kept .1 .0) (kept .1 .1)))

@@ -8,12 +8,12 @@ use Rattle.bintolage.proofs.bintolage_finish.Statement.{statement}
 use Rattle.bintolage.proofs.bintolage_finish.Tie as tie
 
 -- the lent memory
-abbrev lent : tie.Start → Mem
-lent c = memOf (now (c .args .table)) (now (c .args .xy)) (now (c .args .ends)) (now (c .args .z)) (now (c .args .m)) (now (c .args .t)) (now (c .args .tm))
+abbrev lends : tie.Start → Mem
+lends c = memOf (now (c .args .table)) (now (c .args .xy)) (now (c .args .ends)) (now (c .args .z)) (now (c .args .m)) (now (c .args .t)) (now (c .args .tm))
 
 pub bintolage-finish-spec : {M : Type 1} → statement M
 bintolage-finish-spec =
     tie.close (tie.spec (λ c κs. search needs) (λ c κs. search needs) (λ c κs. search needs) (λ c. search needs) (λ c. let start = c .before .before .before .before .before .before .before .before .before .before .before .before .before .before .before in
     let finish = c .before .before .before .before .finish in
     let known = c .before .before .before .before .before .before in
-    kept-call (λ (s : State). finishCall s (lent start)) (now (start .args .state)) _ (known .state-of .ensures) (finish .ensures) (c .keep .ensures .0) (c .keep .ensures .1)))
+    kept-call (λ (s : State). finishCall s (lends start)) (now (start .args .state)) _ (known .state-of .ensures) (finish .ensures) (c .keep .ensures .0) (c .keep .ensures .1)))

@@ -8,8 +8,8 @@ use Rattle.bintolage.proofs.bintolage_next.Statement.{statement}
 use Rattle.bintolage.proofs.bintolage_next.Tie as tie
 
 -- the lent memory
-abbrev lent : tie.Start → Mem
-lent c = memOf (now (c .args .table)) (now (c .args .xy)) (now (c .args .ends)) (now (c .args .z)) (now (c .args .m)) (now (c .args .t)) (now (c .args .tm))
+abbrev lends : tie.Start → Mem
+lends c = memOf (now (c .args .table)) (now (c .args .xy)) (now (c .args .ends)) (now (c .args .z)) (now (c .args .m)) (now (c .args .t)) (now (c .args .tm))
 
 pub bintolage-next-spec : {M : Type 1} → statement M
 bintolage-next-spec =
@@ -27,4 +27,4 @@ bintolage-next-spec =
     (λ c. let start = c .before .before .before .before .before .before .before .before .before .before .before .before .before .before .before .before .before .before .before .before .before .before .before .before .before .before .before .before .before .before in
     let next = c .before .before .before .before .before .before .before .before .before .before .before .before .before .before .next in
     let known = c .before .before .before .before .before .before .before .before .before .before .before .before .before .before .before .before .before .before .before .before .before in
-    kept-call (λ (s : State). nextCall s (lent start)) (now (start .args .state)) _ (known .state-of .ensures) (next .ensures) (c .keep .ensures .0) (c .keep .ensures .1)))
+    kept-call (λ (s : State). nextCall s (lends start)) (now (start .args .state)) _ (known .state-of .ensures) (next .ensures) (c .keep .ensures .0) (c .keep .ensures .1)))

@@ -1,5 +1,5 @@
 use native.Mathlib.Omega.{arith}
-use Rattle.store.specs.Log.{events}
+use Rattle.log.specs.Log.{events}
 use Rattle.bintolage.specs.CallLaws.{count-most}
 use borrow.Author.Needs.{needs}
 use Rattle.bintolage.proofs.bintolage_read.Statement.{statement}

@@ -1,7 +1,7 @@
 use mathlib.Core.Path.{ap, _∙_}
 use native.Mathlib.Omega.{arith}
 use Rattle.laws.specs.Cut.{said}
-use Rattle.store.specs.Values.{values}
+use Rattle.log.specs.Values.{values}
 use Rattle.bintolage.specs.Calls.{one}
 use Rattle.bintolage.specs.CallLaws.{count-most, stop-byte}
 use borrow.Author.Needs.{needs}

@@ -4,7 +4,7 @@ use Prim.Native.Nat.{_*_, _-_, _≤_}
 use lib.ListN.{length, drop}
 use Rattle.laws.specs.Script.{run}
 use Rattle.laws.specs.Framed.{went-on, broke-off, ended}
-use Rattle.store.specs.Log.{events}
+use Rattle.log.specs.Log.{events}
 use Rattle.lone_ring.specs.Lone.{loneS, lone-end, lone-odd, lone-next}
 use Rattle.lone_ring.proofs.read_lone_pairs.Statement.{statement}
 use Rattle.lone_ring.proofs.read_lone_pairs.Tie as tie

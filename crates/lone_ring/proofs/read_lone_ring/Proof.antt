@@ -1,5 +1,5 @@
 use Rattle.laws.specs.Framed.{no-begin, no-body, to-end}
-use Rattle.store.specs.Log.{events}
+use Rattle.log.specs.Log.{events}
 use Rattle.lone_ring.specs.Lone.{lone-ring}
 use borrow.Author.Needs.{needs}
 use Rattle.lone_ring.proofs.read_lone_ring.Statement.{statement}

@@ -27,7 +27,7 @@ only-room c =
       le-ltb 65535 (a .column) index,
       ← formed .before .is-malformed .ensures,
       formed .if3 .left,
-      is-true (spelt .before .text-ok .ensures) (spelt .if4 .left),
+      is-true (spelt .before .is-spelt .ensures) (spelt .if4 .left),
       length-property (a .column) (a .kind) (a .bits) (a .text .now),
       ← c .before .property-length .ensures,
       ← c .usable-length .ensures,
@@ -52,7 +52,7 @@ refusal-of-spec =
       le-ltb 65535 _ (indexed .if2 .left),
       ← formed .before .is-malformed .ensures,
       formed .if3 .left,
-      is-false (c .before .text-ok .ensures) (c .if4 .taken),
+      is-false (c .before .is-spelt .ensures) (c .if4 .taken),
     ))
     (λ c κs. search needs)
     (λ c.

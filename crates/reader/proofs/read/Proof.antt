@@ -3,7 +3,7 @@ use Prim.Native.Nat.{ℕ}
 use Rattle.laws.specs.Cut.{said}
 use Rattle.laws.specs.Framed.{ended}
 use Rattle.store.specs.Lists.{poolsOf, listsOf, recordWith}
-use Rattle.store.specs.Log.{events}
+use Rattle.log.specs.Log.{events}
 use Rattle.walks.specs.declared.walk.Walk.{Walk}
 use Rattle.walks.specs.Walks.{walkOf}
 use Rattle.reader.specs.Roles.{walkS}

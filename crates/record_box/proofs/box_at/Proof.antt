@@ -13,7 +13,7 @@ use Rattle.record_box.proofs.box_at.Tie as tie
 -- the record that was asked for
 asked : (c : tie.After-record-at) → (let a = c .before .before .before .before .before .before .before .before .before .args in
     c .record-at .result ≡ recordAt (now (a .table)) (lentOf (poolsOf (now (a .xy)) (now (a .ends)) (now (a .z)) (now (a .m)) (now (a .t)) (now (a .tm)))) (a .n))
-asked c = let a = c .before .before .before .before .before .before .before .before .before .args in c .record-at .ensures ∙ ap (λ (lent : Lent). recordAt (now (a .table)) lent (a .n)) (c .before .new .ensures)
+asked c = let a = c .before .before .before .before .before .before .before .before .before .args in c .record-at .ensures ∙ ap (λ (pools : Lent). recordAt (now (a .table)) pools (a .n)) (c .before .new .ensures)
 
 pub box-at-spec : {M : Type 1} → statement M
 box-at-spec =

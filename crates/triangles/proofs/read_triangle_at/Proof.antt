@@ -1,5 +1,5 @@
 use Rattle.laws.specs.Framed.{no-begin, no-body, to-end}
-use Rattle.store.specs.Log.{events}
+use Rattle.log.specs.Log.{events}
 use Rattle.lines.specs.Lines.{triangleAt}
 use borrow.Author.Needs.{needs}
 use Rattle.triangles.proofs.read_triangle_at.Statement.{statement}

@@ -4,8 +4,8 @@ use borrow.Author.Needs.{needs}
 use Rattle.kinds.specs.Event.{BareOf}
 use Rattle.kinds.specs.declared.event.Bare.{Bare}
 use Rattle.kinds.specs.declared.event.Heard.the-variants.{Pair}
-use Rattle.store.specs.Log.{heard}
-use Rattle.store.specs.LogLaws.{not-whole, behind}
+use Rattle.log.specs.Log.{heard}
+use Rattle.log.specs.LogLaws.{not-whole, behind}
 use Rattle.writing.specs.Calls.{isReady}
 use Rattle.writing.specs.State.{Mem, memOf}
 use Rattle.writing.specs.Ends.{malformed}

@@ -5,7 +5,7 @@ use Prim.Native.Nat.{_+_, _-_, _*_, _≤_, _<_}
 use lib.ListN.{length, drop}
 use Rattle.laws.specs.Script.{run}
 use Rattle.laws.specs.Framed.{went-on, broke-off, ended}
-use Rattle.store.specs.Log.{events}
+use Rattle.log.specs.Log.{events}
 use Rattle.coords.specs.Coords.{coordsS, dropped}
 use Rattle.coords.specs.Seen.{lanesIn}
 use Rattle.coords.specs.CoordLaws.{coords-end, coords-odd, coords-short, coords-whole}

@@ -1,5 +1,5 @@
 use Rattle.laws.specs.Framed.{no-begin, no-body, to-end}
-use Rattle.store.specs.Log.{events}
+use Rattle.log.specs.Log.{events}
 use borrow.Author.Needs.{needs}
 use Rattle.coords.proofs.coords.read_window.Statement.{statement}
 use Rattle.coords.proofs.coords.read_window.Tie as tie

@@ -1,5 +1,5 @@
 use mathlib.Core.Path.{refl}
-use Rattle.store.specs.Log.{events}
+use Rattle.log.specs.Log.{events}
 use Rattle.laws.specs.Framed.{ended}
 use Rattle.lines.specs.LineLaws.{flat-absent, flat-whole}
 use borrow.Author.Needs.{needs}

@@ -1,6 +1,6 @@
 use native.Mathlib.Omega.{arith}
 use mathlib.Core.Path.{refl}
-use Rattle.store.specs.Log.{events}
+use Rattle.log.specs.Log.{events}
 use Rattle.laws.specs.Framed.{ended}
 use Rattle.coords.specs.Seen.{coordsIn}
 use Rattle.lines.specs.LineLaws.{good-end, stretch-bad, stretch-good}

@@ -1,5 +1,5 @@
 use Rattle.laws.specs.Framed.{no-begin, no-body, to-end}
-use Rattle.store.specs.Log.{events}
+use Rattle.log.specs.Log.{events}
 use mathlib.Core.Path.{ap, _∙_}
 use Prim.Native.Nat.{ℕ}
 use Rattle.kinds.specs.Event.{beginE}

@@ -10,8 +10,8 @@ use Rattle.laws.specs.Branch.{is-true, is-false}
 use Rattle.laws.specs.Every.{both}
 use Rattle.kinds.specs.Event.{toldApart}
 use Rattle.kinds.specs.declared.event.Heard.{Heard}
-use Rattle.store.specs.Log.{heard}
-use Rattle.store.specs.LogLaws.{Behind, behind}
+use Rattle.log.specs.Log.{heard}
+use Rattle.log.specs.LogLaws.{Behind, behind}
 use Rattle.asking.specs.declared.ask.Added.{Added}
 use Rattle.asking.specs.Ask.{pairWith}
 use Rattle.pending.specs.Growth.{grownValues}

@@ -1,0 +1,4 @@
+pub mod Saying
+pub mod Log
+pub mod LogLaws
+pub mod Values

@@ -1,0 +1,54 @@
+// The log: event records one after the other.
+use crate::room::has_room;
+use kinds::answer::Answer;
+use kinds::event::Bare;
+use kinds::event::Event;
+use kinds::event::Heard;
+use kinds::refusal;
+ghost use mathlib.Core.Path.{_≡_};
+ghost use lib.ListN.{length};
+ghost use Rattle.laws.specs.Script.{one, out, run};
+ghost use Rattle.kinds.specs.declared.event.Event.{Event};
+ghost use Rattle.kinds.specs.Event.{WellFormed, toldApart, BareOf};
+ghost use Rattle.log.specs.Log.{events, heard};
+
+// What bytes are: a pair, a coordinate, a begin that sets no type, any other event, or malformed.
+pub fn hear(bytes: &[u8]) -> Heard
+    ensures { λ r. ⌜ r ≡ toldApart (heard (now (bytes .entry))) ⌝ }
+{
+    event_layout::read_event(bytes)
+}
+
+// The pair that bytes are if they are an xy event: a quick look, for a caller that gives a pair by itself.
+pub fn hear_bare(bytes: &[u8]) -> Bare
+    ensures { λ r. ⌜ BareOf (heard (now (bytes .entry))) r ⌝ }
+{
+    event_layout::read_bare(bytes)
+}
+
+// The whole event of bytes that are heard as one: `hear` leaves out an index, and all that a begin says.
+pub fn event_in(bytes: &[u8]) -> Event
+    requires { ⌜ length (now bytes) ≡ 64 ⌝ }
+    ensures { λ r. ⌜ ((e : Event) → heard (now (bytes .entry)) ≡ WellFormed e → r ≡ e) ⌝ }
+{
+    event_layout::event_of(bytes)
+}
+
+// Writes the next record of a log that has `count` of them, or refuses with 9.
+pub fn say(log: &mut [u8], count: usize, e: Event) -> Answer
+    ensures { λ r. ⌜ run events (one e) (now (log .entry)) count ≡ out (r .number) (r .count) (now (log .exit)) ⌝ }
+{
+    if !has_room(log, 64, count) {
+        return Answer {
+            number: refusal::LOG_FULL,
+            count,
+        };
+    }
+    let from = 64 * count;
+    let end = from + 64;
+    event_layout::put_event(&mut log[from..end], e);
+    Answer {
+        number: refusal::DONE,
+        count: count + 1,
+    }
+}

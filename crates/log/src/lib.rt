@@ -1,0 +1,10 @@
+// Logs in lent memory: events, said and heard, and values. No record's bytes show above it.
+mod events;
+mod room;
+mod values;
+
+pub use events::event_in;
+pub use events::hear;
+pub use events::hear_bare;
+pub use events::say;
+pub use values::say_value;

@@ -1,8 +1,0 @@
-use mathlib.Core.Path.{_∙_}
-use borrow.Author.Needs.{needs}
-use Rattle.store.specs.LogLaws.{heard-event}
-use Rattle.store.proofs.log.event_in.Statement.{statement}
-use Rattle.store.proofs.log.event_in.Tie as tie
-
-pub event-in-spec : {M : Type 1} → statement M
-event-in-spec = tie.close (tie.spec (λ c κs. search needs) (λ c e h. c .event-of .ensures ∙ heard-event _ e h .fields))
