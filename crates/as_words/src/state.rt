@@ -16,6 +16,11 @@ pub const STATE_WORDS: usize = 16;
 
 pub type StateWords = [u32; STATE_WORDS];
 
+// Where a state counts the parts of the feature in hand, and the property bytes.
+pub const PARTS: usize = 1;
+
+pub const PROPERTIES: usize = 2;
+
 // What each byte of the first word counts for there; the highest holds the marks.
 const CURRENT: u32 = 256;
 
@@ -23,9 +28,9 @@ const MODE: u32 = 65536;
 
 const MARKS: u32 = 16777216;
 
-const DETECT: u8 = 1;
+pub const DETECT: u8 = 1;
 
-const PROMOTE: u8 = 2;
+pub const PROMOTE: u8 = 2;
 
 const WAITING: u8 = 4;
 
@@ -47,6 +52,13 @@ fn typing_of(head: u32) -> Typing
         current: byte_of(head, CURRENT),
         mode: byte_of(head, MODE),
     }
+}
+
+// The type that is declared, or the first that was detected.
+pub fn declared_of(words: &StateWords) -> u8
+    ensures { λ r. ⌜ r ≡ stateOf (now (words .entry)) .typing .declared ⌝ }
+{
+    byte_of(words[0], 1)
 }
 
 fn pending_of(words: StateWords) -> Pending
@@ -89,8 +101,8 @@ pub fn state_of(words: StateWords) -> State
     State {
         typing,
         waiting: bit_set(byte_of(head, MARKS), WAITING),
-        parts: words[1],
-        properties: words[2],
+        parts: words[PARTS],
+        properties: words[PROPERTIES],
         pending,
     }
 }

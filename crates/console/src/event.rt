@@ -10,8 +10,7 @@ use kinds::event::Heard;
 use kinds::event::bit_set;
 use kinds::flags::Flags;
 use kinds::geometry_type;
-
-pub const EVENT_BYTES: usize = 64;
+use log::EVENT_BYTES;
 
 fn say_value(present: u8, bit: u8, name: &[u8], bits: u64) {
     if bit == 0 {

@@ -1,4 +1,6 @@
 // Runs the job of standard input: writes each feature, reads it back, and prints its map, or why there is none.
+use as_words::state::PARTS;
+use as_words::state::STATE_WORDS;
 use job_answers::answered;
 use job_calls::TABLE_BYTES;
 use job_calls::WORDS;
@@ -10,23 +12,14 @@ use job_file::Head;
 use job_file::read_head;
 use job_steps::ROOM_BYTES;
 use job_steps::SENT_BYTES;
-use job_steps::Turn;
 use job_steps::Work;
 use job_steps::step;
 ghost use Prim.Native.Nat.{_<_};
 
-fn first_turn(head: Head) -> Turn {
-    Turn {
-        work: Work::new(head.items),
-        state: writer::start(head.declared, head.detect, head.promote),
-    }
-}
-
-fn left(turns: u64, turn: Turn) -> u64
+fn left(turns: u64, work: Work) -> u64
     requires { ⌜ 0 < turns ⌝ }
     ensures { λ r. ⌜ r < turns ⌝ }
 {
-    let work = turn.work;
     if work.is_over() { 0 } else { turns - 1 }
 }
 
@@ -53,11 +46,19 @@ fn run(head: Head, columns: &[u8]) {
     let mut room = [0u8; ROOM_BYTES];
     let mut sent = blank_sent();
     let mut log = blank_log();
-    let mut turn = first_turn(head);
+    let mut work = Work::new(head.items);
+    let mut state = [0u32; STATE_WORDS];
+    bintolage::bintolage_start(
+        head.declared,
+        head.detect as u8,
+        head.promote as u8,
+        &mut state,
+    );
     let mut turns = u64::MAX;
     while turns > 0 {
-        turn = step(
-            turn,
+        work = step(
+            work,
+            &mut state,
             head,
             columns,
             &mut sent,
@@ -66,7 +67,8 @@ fn run(head: Head, columns: &[u8]) {
             &mut given,
         );
         let reply = ask(
-            turn,
+            work,
+            &mut state,
             head.flags,
             &sent,
             &mut table,
@@ -78,8 +80,8 @@ fn run(head: Head, columns: &[u8]) {
             &mut tm,
             &mut log,
         );
-        turn = answered(turn, reply, &sent, &log);
-        turns = left(turns, turn);
+        work = answered(work, state[PARTS], reply, &sent, &log);
+        turns = left(turns, work);
     }
 }
 

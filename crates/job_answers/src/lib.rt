@@ -6,7 +6,6 @@ use console::say_refusal;
 use job_calls::Reply;
 use job_steps::SENT_BYTES;
 use job_steps::Stage;
-use job_steps::Turn;
 use job_steps::Work;
 use job_steps::after_event;
 use kinds::answer::Answer;
@@ -75,12 +74,14 @@ fn after(work: Work, answer: Answer, bbox: Box, parts: u32, sent: &[u8], log: &[
     }
 }
 
-pub fn answered(turn: Turn, reply: Reply, sent: &[u8; SENT_BYTES], log: &[u8; SENT_BYTES]) -> Turn {
-    let work = turn.work;
-    let state = reply.state;
+// The feature in hand has so many parts.
+pub fn answered(
+    work: Work,
+    parts: u32,
+    reply: Reply,
+    sent: &[u8; SENT_BYTES],
+    log: &[u8; SENT_BYTES],
+) -> Work {
     let bbox = reply.bbox;
-    Turn {
-        work: after(work, answer_of(reply), bbox, state.parts, sent, log),
-        state,
-    }
+    after(work, answer_of(reply), bbox, parts, sent, log)
 }

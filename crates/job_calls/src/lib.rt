@@ -3,13 +3,16 @@ mod lookup;
 mod reply;
 mod write;
 
+use as_words::state::StateWords;
+use as_words::state::declared_of;
 use job_steps::SENT_BYTES;
 use job_steps::Stage;
-use job_steps::Turn;
+use job_steps::Work;
 use job_steps::event_of;
 use kinds::flags::Flags;
 use lookup::look_up;
 pub use reply::Reply;
+use reply::numbered;
 use write::write;
 
 pub const TABLE_BYTES: usize = 262144;
@@ -35,7 +38,8 @@ fn only_looks(stage: Stage) -> bool {
 
 // It takes arrays, so that a loop over it need not say how long they are. A stage that is not the library's asks nothing.
 pub fn ask(
-    turn: Turn,
+    work: Work,
+    state: &mut StateWords,
     flags: Flags,
     sent: &[u8; SENT_BYTES],
     table: &mut [u8; TABLE_BYTES],
@@ -47,12 +51,22 @@ pub fn ask(
     tm: &mut [u64; WORDS],
     log: &mut [u8; SENT_BYTES],
 ) -> Reply {
-    let work = turn.work;
-    let state = turn.state;
     let stage = work.stage;
     if only_looks(stage) {
-        return look_up(stage, state, flags, table, xy, ends, z, m, t, tm, log);
+        return look_up(
+            stage,
+            declared_of(state),
+            flags,
+            table,
+            xy,
+            ends,
+            z,
+            m,
+            t,
+            tm,
+            log,
+        );
     }
     let event = event_of(work.events, sent);
-    write(stage, state, event, table, xy, ends, z, m, t, tm)
+    numbered(write(stage, state, event, table, xy, ends, z, m, t, tm))
 }

@@ -4,12 +4,11 @@ use crate::reply::with_box;
 use crate::reply::with_count;
 use job_steps::Stage;
 use kinds::flags::Flags;
-use writing::state::State;
 
 // The box of a record, where the stage says of which, or the feature read back to the log.
 pub fn look_up(
     stage: Stage,
-    state: State,
+    declared: u8,
     flags: Flags,
     table: &[u8],
     xy: &[u64],
@@ -21,11 +20,7 @@ pub fn look_up(
     log: &mut [u8],
 ) -> Reply {
     if let Stage::Box(n) = stage {
-        return with_box(state, record_box::box_at(table, xy, ends, z, m, t, tm, n));
+        return with_box(record_box::box_at(table, xy, ends, z, m, t, tm, n));
     }
-    let declared = state.typing.declared;
-    with_count(
-        state,
-        reader::read(table, xy, ends, z, m, t, tm, declared, flags, log),
-    )
+    with_count(reader::read(table, xy, ends, z, m, t, tm, declared, flags, log))
 }

@@ -1,14 +1,11 @@
-// The writer's calls.
-use crate::reply::Reply;
-use crate::reply::numbered;
-use crate::reply::written;
+// The writer's calls. Where none is due the state stays as it is.
+use as_words::state::StateWords;
 use job_steps::Stage;
 use kinds::refusal;
-use writing::state::State;
 
 pub fn write(
     stage: Stage,
-    state: State,
+    state: &mut StateWords,
     event: &[u8],
     table: &mut [u8],
     xy: &mut [u64],
@@ -17,15 +14,15 @@ pub fn write(
     m: &mut [u64],
     t: &mut [u64],
     tm: &mut [u64],
-) -> Reply {
+) -> u8 {
     if let Stage::Event = stage {
-        return written(writer::event(state, event, table, xy, ends, z, m, t, tm));
+        return bintolage::bintolage_event(state, event, table, xy, ends, z, m, t, tm);
     }
     if let Stage::Finish = stage {
-        return written(writer::finish(state, table, xy, ends, z, m, t, tm));
+        return bintolage::bintolage_finish(state, table, xy, ends, z, m, t, tm);
     }
     if let Stage::Leave = stage {
-        return written(writer::next(state, table, xy, ends, z, m, t, tm));
+        return bintolage::bintolage_next(state, table, xy, ends, z, m, t, tm);
     }
-    numbered(refusal::DONE, state)
+    refusal::DONE
 }

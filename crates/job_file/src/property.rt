@@ -6,10 +6,9 @@ use crate::input::read;
 use event_layout::put_value;
 use kinds::column_type;
 use kinds::value::Value;
+use log::VALUE_BYTES;
 use numbers::u32_at;
 use numbers::u64_at;
-
-const VALUE_BYTES: usize = 16;
 
 // Before the text: the column, the type, the value's bits, the text's length.
 const HEAD_BYTES: usize = 17;

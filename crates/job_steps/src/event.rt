@@ -10,10 +10,9 @@ use job_file::fault;
 use job_file::read;
 use kinds::geometry_type;
 use kinds::refusal;
+use log::EVENT_BYTES;
 use report::KEPT;
 ghost use Prim.Native.Nat.{_≤_};
-
-const EVENT_BYTES: usize = 64;
 
 // One more than are kept.
 pub const SENT_BYTES: usize = EVENT_BYTES * (KEPT + 1);

@@ -4,6 +4,8 @@ mod item;
 mod property;
 mod work;
 
+use as_words::state::PROPERTIES;
+use as_words::state::StateWords;
 pub use event::SENT_BYTES;
 pub use event::after_event;
 pub use event::event_of;
@@ -14,22 +16,21 @@ pub use property::ROOM_BYTES;
 use property::show_values;
 use property::take_property;
 pub use work::Stage;
-pub use work::Turn;
 pub use work::Work;
 
-// Does what the turn has to do before the library is asked: at most one of these steps is due.
+// Does what is due before the library is asked: at most one of these steps.
 pub fn step(
-    turn: Turn,
+    work: Work,
+    state: &mut StateWords,
     head: Head,
     columns: &[u8],
     sent: &mut [u8; SENT_BYTES],
     room: &mut [u8; ROOM_BYTES],
     bytes: &mut [u8; ROOM_BYTES],
     given: &mut [u8; ROOM_BYTES],
-) -> Turn {
-    let work = turn.work;
-    let state = turn.state;
+) -> Work {
     let read = read_event(read_item(work), sent);
     let taken = take_property(read, state, head.columns, columns, room, bytes, given);
-    show_values(taken, head.columns, columns, given, bytes, room)
+    let used = state[PROPERTIES];
+    show_values(taken, used, head.columns, columns, given, bytes, room)
 }

@@ -1,7 +1,8 @@
 // The properties of a job: given to the writer, and shown when they were read back.
 use crate::work::Stage;
-use crate::work::Turn;
 use crate::work::Work;
+use as_words::state::PROPERTIES;
+use as_words::state::StateWords;
 use console::end_line;
 use console::say;
 use console::say_count;
@@ -16,7 +17,6 @@ use kinds::refusal;
 use report::Properties;
 use report::first;
 use report::show_properties;
-use writing::state::State;
 
 // For property bytes, for a text or value records, and for the values as they are to come back.
 pub const ROOM_BYTES: usize = 65536;
@@ -49,78 +49,65 @@ fn mistyped(work: Work) -> Work {
 // `room` begins with the property's text, and `given` has the values as they are to come back.
 fn write_property(
     work: Work,
-    state: State,
+    state: &mut StateWords,
     p: Property,
     room: &[u8],
     bytes: &mut [u8],
     given: &mut [u8],
-) -> Turn {
+) -> Work {
+    let used = state[PROPERTIES];
     let text = first(room, p.length);
-    let wrote = writer::property(state, p.column, p.kind, p.bits, text, bytes);
-    let after = wrote.state;
-    let value = value_of(p, state.properties, after.properties);
+    let number = bintolage::bintolage_property(state, p.column, p.kind, p.bits, text, bytes);
+    let value = value_of(p, used, state[PROPERTIES]);
     keep(given, work.properties, value);
-    Turn {
-        work: after_property(work, wrote.number),
-        state: after,
-    }
+    after_property(work, number)
 }
 
 // Takes a property, if it is its turn: `columns` has the type of each column, of which there are `count`.
 pub fn take_property(
     work: Work,
-    state: State,
+    state: &mut StateWords,
     count: usize,
     columns: &[u8],
     room: &mut [u8; ROOM_BYTES],
     bytes: &mut [u8; ROOM_BYTES],
     given: &mut [u8; ROOM_BYTES],
-) -> Turn {
+) -> Work {
     let stage = work.stage;
     let Stage::Property = stage else {
-        return Turn { work, state };
+        return work;
     };
     let read = read_property(work.place, room);
     let after = work.at(read.place);
     if read.fault != fault::NONE {
-        return Turn {
-            work: after.broken(read.fault),
-            state,
-        };
+        return after.broken(read.fault);
     }
     let p = read.property;
     if !is_of_type(columns, count, p.column, p.kind) {
-        return Turn {
-            work: mistyped(after),
-            state,
-        };
+        return mistyped(after);
     }
     write_property(after, state, p, room, bytes, given)
 }
 
-// Shows the properties as they come back, if it is their turn.
+// Shows the properties as they come back, if it is their turn: so many bytes of them are used.
 pub fn show_values(
-    turn: Turn,
+    work: Work,
+    used: u32,
     count: usize,
     columns: &[u8],
     given: &[u8; ROOM_BYTES],
     bytes: &[u8; ROOM_BYTES],
     room: &mut [u8; ROOM_BYTES],
-) -> Turn {
-    let work = turn.work;
+) -> Work {
     let stage = work.stage;
     let Stage::Values = stage else {
-        return turn;
+        return work;
     };
-    let state = turn.state;
     let properties = Properties {
         given: work.properties,
-        bytes: state.properties as usize,
+        bytes: used as usize,
         columns: count,
     };
     show_properties(properties, given, bytes, columns, room);
-    Turn {
-        work: work.to(Stage::Leave),
-        state,
-    }
+    work.to(Stage::Leave)
 }

@@ -4,7 +4,6 @@ use console::say_number;
 use job_file::fault::not_a_job;
 use job_file::past;
 use report::Feature;
-use writing::state::State;
 
 // What is to be done next.
 pub enum Stage {
@@ -38,12 +37,6 @@ pub struct Work {
     // The place of the next byte.
     pub place: u64,
     pub stage: Stage,
-}
-
-// What goes from turn to turn: the program's own account and the writer's.
-pub struct Turn {
-    pub work: Work,
-    pub state: State,
 }
 
 fn more(n: usize) -> usize {

@@ -1,4 +1,5 @@
 // The log: event records one after the other.
+use crate::EVENT_BYTES;
 use crate::room::has_room;
 use kinds::answer::Answer;
 use kinds::event::Bare;
@@ -38,14 +39,14 @@ pub fn event_in(bytes: &[u8]) -> Event
 pub fn say(log: &mut [u8], count: usize, e: Event) -> Answer
     ensures { λ r. ⌜ run events (one e) (now (log .entry)) count ≡ out (r .number) (r .count) (now (log .exit)) ⌝ }
 {
-    if !has_room(log, 64, count) {
+    if !has_room(log, EVENT_BYTES, count) {
         return Answer {
             number: refusal::LOG_FULL,
             count,
         };
     }
-    let from = 64 * count;
-    let end = from + 64;
+    let from = EVENT_BYTES * count;
+    let end = from + EVENT_BYTES;
     event_layout::put_event(&mut log[from..end], e);
     Answer {
         number: refusal::DONE,

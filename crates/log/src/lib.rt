@@ -8,3 +8,8 @@ pub use events::hear;
 pub use events::hear_bare;
 pub use events::say;
 pub use values::say_value;
+
+// How wide the records are.
+pub const EVENT_BYTES: usize = 64;
+
+pub const VALUE_BYTES: usize = 16;

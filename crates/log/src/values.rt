@@ -1,4 +1,5 @@
 // A log of values: value records one after the other.
+use crate::VALUE_BYTES;
 use crate::room::has_room;
 use kinds::answer::Answer;
 use kinds::refusal;
@@ -11,14 +12,14 @@ ghost use Rattle.log.specs.Values.{values};
 pub fn say_value(log: &mut [u8], count: usize, v: Value) -> Answer
     ensures { λ r. ⌜ run values (one v) (now (log .entry)) count ≡ out (r .number) (r .count) (now (log .exit)) ⌝ }
 {
-    if !has_room(log, 16, count) {
+    if !has_room(log, VALUE_BYTES, count) {
         return Answer {
             number: refusal::LOG_FULL,
             count,
         };
     }
-    let from = 16 * count;
-    let end = from + 16;
+    let from = VALUE_BYTES * count;
+    let end = from + VALUE_BYTES;
     event_layout::put_value(&mut log[from..end], v);
     Answer {
         number: refusal::DONE,

@@ -2,14 +2,13 @@
 use crate::described;
 use crate::tree;
 use kinds::answer::Answer;
+use log::EVENT_BYTES;
 use replay::Tally;
 use replay::bytes_from;
 use replay::difference;
 use replay::number;
 use replay::tally;
 use replay::unless;
-
-const EVENT_BYTES: usize = 64;
 
 // Where the events of a tree are described, and where its readings stand.
 const EVENTS: usize = 22;

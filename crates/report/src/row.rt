@@ -1,10 +1,8 @@
 // Rows of records, and of bytes.
+use log::EVENT_BYTES;
+use log::VALUE_BYTES;
 ghost use Prim.Native.Nat.{_≤_};
 ghost use lib.ListN.{length};
-
-pub const EVENT_BYTES: usize = 64;
-
-pub const VALUE_BYTES: usize = 16;
 
 // The first bytes of a row, as far as it has them.
 pub fn first(row: &[u8], count: usize) -> &[u8] {

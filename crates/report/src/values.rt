@@ -1,6 +1,5 @@
 // The properties of a feature, read back from its property bytes.
 use crate::names::say_name;
-use crate::row::VALUE_BYTES;
 use console::end_line;
 use console::say;
 use console::say_bytes;
@@ -12,6 +11,7 @@ use console::say_signed;
 use console::say_text;
 use kinds::column_type;
 use kinds::value::Value;
+use log::VALUE_BYTES;
 use numbers::u16_at;
 use numbers::u32_at;
 use numbers::u64_at;

@@ -1,5 +1,4 @@
 // Whether a feature came back as it went in.
-use crate::row::EVENT_BYTES;
 use crate::row::common;
 use crate::row::same;
 use console::end_line;
@@ -10,6 +9,7 @@ use console::say_refusal;
 use kinds::answer::Answer;
 use kinds::geometry_type;
 use kinds::refusal;
+use log::EVENT_BYTES;
 
 // So many events of a feature are kept to be compared.
 pub const KEPT: usize = 16384;

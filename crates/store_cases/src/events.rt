@@ -3,6 +3,7 @@ use kinds::answer::Answer;
 use kinds::event::Event;
 use kinds::event::Heard;
 use kinds::refusal;
+use log::EVENT_BYTES;
 use replay::bytes_from;
 use replay::difference;
 use replay::first;
@@ -10,8 +11,6 @@ use replay::number;
 use replay::past;
 use replay::unless;
 use replay::word;
-
-const EVENT_BYTES: usize = 64;
 
 // Where the parts of a case stand.
 const NUMBER: usize = 1;

@@ -1,12 +1,9 @@
 // A case's call, on the memory that the case lends.
 use crate::expected;
 use crate::expected::Answered;
+use as_words::state::DETECT;
+use as_words::state::PROMOTE;
 use as_words::state::StateWords;
-
-// The marks of a state's first word that a row is started with.
-const DETECT: u8 = 1;
-
-const PROMOTE: u8 = 2;
 
 // Starts a row. Of a mark 0 is no, all else yes.
 fn start(case: &[u8], state: &mut StateWords) -> Answered {

@@ -1,5 +1,6 @@
 // A property call among a row's calls.
 use crate::memory;
+use as_words::state::PROPERTIES;
 use as_words::state::StateWords;
 use replay::past;
 use replay::word;
@@ -19,11 +20,8 @@ fn put(case: &[u8], state: &mut StateWords, buffer: &mut [u8]) -> Answered {
     Answered { number, taken: 0 }
 }
 
-// Where the state counts the feature's property bytes.
-const USED: usize = 2;
-
 fn clear(state: &StateWords, memory: &mut [u8]) {
-    if state[USED] == 0 {
+    if state[PROPERTIES] == 0 {
         replay::clear(memory);
     }
 }
