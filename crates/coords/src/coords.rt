@@ -8,7 +8,7 @@ use kinds::event::Event;
 use kinds::refusal;
 ghost use mathlib.Core.Path.{_≡_};
 ghost use Prim.Native.Nat.{_+_, _-_, _≤_, _<_};
-ghost use lib.ListN.{length, take, drop};
+ghost use lib.ListN.{length};
 ghost use Rattle.laws.specs.Script.{out, run};
 ghost use Rattle.laws.specs.Framed.{framed};
 ghost use Rattle.kinds.specs.Event.{beginE, endE};

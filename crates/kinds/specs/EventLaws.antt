@@ -9,7 +9,7 @@ use Rattle.laws.specs.Every.{never, both, other, every, every-at}
 use Rattle.kinds.specs.declared.event.Event.{Event}
 use Rattle.kinds.specs.declared.event.Heard.the-variants.{Pair, Coordinate, Quiet, Other, Malformed as Unheard}
 use Rattle.kinds.specs.declared.event.Uses.{Uses}
-use Rattle.kinds.specs.Event.{Parsed, WellFormed, Malformed, usesIdx, usesOf, keepsUses, bitSet, isQuiet, wellFormed, parsed, toldApart}
+use Rattle.kinds.specs.Event.{WellFormed, Malformed, usesIdx, usesOf, keepsUses, bitSet, isQuiet, wellFormed, parsed, toldApart}
 
 -- ---- what a range of kinds uses, by a test that antt computes over the range
 abbrev pub same : Uses → Uses → Bool

@@ -1,5 +1,5 @@
 -- Room: the lesser of lent and usable, for all that is pending, for more words, and for a number of records; and what a test of it tells.
-use mathlib.Core.Path.{_≡_, refl, sym, ap}
+use mathlib.Core.Path.{_≡_, refl, sym}
 use mathlib.Core.Bool.{Bool, true, false, cond, _&&_}
 use Prim.Native.Nat.{ℕ, _+_, _≤_}
 use native.Mathlib.Omega.{arith}

@@ -2,9 +2,9 @@
 use mathlib.Core.Path.{_≡_, refl, sym, ap, _∙_}
 use mathlib.Core.Bool.{Bool, true, false, cond, not, _&&_}
 use mathlib.Core.List.{List}
-use Prim.Native.Nat.{ℕ, _+_, _≤_}
+use Prim.Native.Nat.{ℕ, _≤_}
 use native.Mathlib.Omega.{arith}
-use lib.Dec.{leb, ltb, eqb}
+use lib.Dec.{leb, ltb}
 use borrow.Author.Tests.{leb-true, ltb-false, le-ltb, ne-eqb}
 use Rattle.laws.specs.Cond.{if-so, if-not}
 use Rattle.laws.specs.Every.{never, both}
@@ -18,7 +18,6 @@ use Rattle.asking.specs.declared.ask.Ask.{Ask}
 use Rattle.asking.specs.declared.set_type.Typed.{Typed}
 use Rattle.asking.specs.declared.set_type.Typed.the-variants.{Set}
 use Rattle.writing.specs.declared.state.State.{State}
-use Rattle.writing.specs.declared.state.Wrote.{Wrote}
 use Rattle.writing.specs.State.{withPending, recordsUsed, wrote}
 use Rattle.asking.specs.Ask.{ask, noWords, pairWith, begun, askOf}
 use Rattle.pending.specs.Room.{hasRoom}

@@ -1,13 +1,12 @@
 -- A run of plain events: where a writer is ready, each asks for room in the pools that it adds to and for nothing else.
 use mathlib.Core.Path.{_≡_, refl, sym, ap, _∙_}
-use mathlib.Core.Bool.{Bool, true, false, cond, not, _&&_}
+use mathlib.Core.Bool.{Bool, true, false, cond, _&&_}
 use mathlib.Core.List.{List, [], _∷_}
 use Prim.Native.Nat.{ℕ, suc, _+_, _-_, _*_, _/_, _≤_, _<_}
 use native.Mathlib.Omega.{arith}
 use lib.Dec.{eqb}
 use lib.ListN.{length, take, drop}
 use lib.Seq.{sets, length-sets}
-use borrow.Author.Tests.{eqb-true}
 use Rattle.laws.specs.Every.{both}
 use Rattle.kinds.specs.Event.{WellFormed, Malformed}
 use Rattle.kinds.specs.Lanes.{xyL, endsL, zL, mL, tL, tmL}
@@ -28,14 +27,14 @@ use Rattle.pending.specs.declared.words.Words.{Words}
 use Rattle.writing.specs.declared.state.Wrote.{Wrote}
 use Rattle.pending.specs.Words.{words, used}
 use Rattle.writing.specs.State.{withPending, recordsUsed, Mem, memOf, Outcome, outcome, settled, wrote}
-use Rattle.asking.specs.Ask.{noWords, pairWith, askOf}
-use Rattle.pending.specs.Room.{roomIn, hasRoom, and-true, room-tested, room-apart, Room, ValuesFit, room-in}
-use Rattle.writing.specs.Calls.{isReady, decideEvent, tableAfter, memAfter, eventWith, eventCall}
+use Rattle.asking.specs.Ask.{noWords, pairWith}
+use Rattle.pending.specs.Room.{roomIn, hasRoom, and-true, room-tested, room-apart, ValuesFit, room-in}
+use Rattle.writing.specs.Calls.{isReady, tableAfter, memAfter, eventWith, eventCall}
 use Rattle.pending.specs.Growth.{grown, grownAll, grownValues}
 use Rattle.writing.specs.Ends.{well-formed}
 use Rattle.runs.specs.Events.{recordOf, recordsIn, eventsFrom, went-on}
 use Rattle.runs.specs.Plain.{plain, blockedNumber, PlainEvent, pair-plain, coordinate-plain, quiet-plain, plain-decides}
-use Rattle.writing.specs.Ready.{Ready, same-ready, event-ready}
+use Rattle.writing.specs.Ready.{same-ready, event-ready}
 use Rattle.writing.specs.Apart.{is-ready}
 
 -- ---- the lent memory as a run has it: the pools of pairs and values, apart from the table and the ends

@@ -6,7 +6,7 @@ use kinds::geometry::Lone;
 use kinds::geometry::Span;
 use kinds::usable;
 ghost use mathlib.Core.Path.{_≡_};
-ghost use Prim.Native.Nat.{_+_, _≤_, _<_};
+ghost use Prim.Native.Nat.{_+_, _<_};
 ghost use Rattle.store.specs.Lone.{LoneAt, inXyPool};
 ghost use Rattle.store.specs.Records.{recordsLent, hasRecord, inPool, inTable, listsIn, judged, recordAt, putRecord};
 

@@ -8,8 +8,7 @@ use lib.Dec.{eqb}
 use lib.ListN.{length, drop, length-drop, length-take}
 use lib.Seq.{take-all}
 use borrow.Author.Tests.{eqb-true, eqb-false}
-use Rattle.kinds.specs.Event.{WellFormed, Malformed}
-use Rattle.kinds.specs.declared.event.Event.{Event}
+use Rattle.kinds.specs.Event.{Malformed}
 use Rattle.kinds.specs.declared.geometry.Lent.{Lent}
 use Rattle.store.specs.Lists.{lentOf}
 use Rattle.log.specs.Log.{heard}
@@ -25,7 +24,7 @@ use Rattle.writing.specs.Apart.{is-ready, was-ready}
 use Rattle.writing.specs.Ends.{malformed}
 use Rattle.runs.specs.Events.{recordOf, recordsIn, restNumber, Progress, took, progress, eventsFrom, eventsCall, none-left, went-on, stopped}
 use Rattle.runs.specs.Plain.{blockedNumber}
-use Rattle.writing.specs.Ready.{Ready, same-ready, event-ready}
+use Rattle.writing.specs.Ready.{same-ready, event-ready}
 use Rattle.writer.specs.Refused.{event-unchanged}
 use Rattle.runs.specs.Run.{Values, memWith, Run, BlockedAt}
 

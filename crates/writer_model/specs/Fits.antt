@@ -3,7 +3,7 @@ use mathlib.Core.Path.{_≡_}
 use Prim.Native.Nat.{_+_, _≤_}
 use native.Mathlib.Omega.{arith}
 use lib.ListN.{length}
-use Rattle.kinds.specs.Lanes.{Lane, xyL, endsL, zL, mL, tL, tmL, usable}
+use Rattle.kinds.specs.Lanes.{Lane, usable}
 use Rattle.pending.specs.declared.words.Words.{Words}
 use Rattle.writing.specs.declared.state.State.{State}
 use Rattle.pending.specs.Words.{words, wordsIn, pendingOf}

@@ -3,8 +3,6 @@ use mathlib.Core.Path.{_≡_, refl, ap}
 use mathlib.Core.Bool.{Bool, true, false, cond}
 use Prim.Native.Nat.{ℕ, _+_, _≤_}
 use native.Mathlib.Omega.{arith}
-use lib.Dec.{leb}
-use borrow.Author.Tests.{leb-true, le-leb}
 use Rattle.kinds.specs.declared.geometry.Lent.{Lent}
 use Rattle.writing.specs.declared.state.State.{State}
 use Rattle.writing.specs.declared.state.Wrote.{Wrote}

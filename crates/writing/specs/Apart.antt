@@ -1,11 +1,11 @@
 -- Room for what a state uses, asked for once, and room for what one event adds, asked for apart: together they are the paper's test.
-use mathlib.Core.Path.{_≡_, refl, sym, ap, _∙_}
+use mathlib.Core.Path.{_≡_, refl, ap}
 use mathlib.Core.Bool.{Bool, true, false, cond, not, _&&_, _||_}
 use mathlib.Core.List.{List}
 use Prim.Native.Nat.{ℕ, _+_, _≤_}
 use native.Mathlib.Omega.{arith}
 use lib.Dec.{eqb}
-use borrow.Author.Tests.{le-leb, not-true}
+use borrow.Author.Tests.{not-true}
 use Rattle.laws.specs.Every.{both}
 use Rattle.kinds.specs.Event.{Parsed, WellFormed, Malformed}
 use Rattle.kinds.specs.declared.geometry.Lent.{Lent}

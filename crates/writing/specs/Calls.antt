@@ -1,10 +1,10 @@
 -- The writer's calls on lent memory: the number, the next state, and what every pool and the table hold afterwards.
-use mathlib.Core.Bool.{Bool, true, false, cond, not, _&&_, _||_}
+use mathlib.Core.Bool.{Bool, true, false, cond, not, _&&_}
 use mathlib.Core.List.{List, [], _∷_, _++_}
 use Prim.Native.Nat.{ℕ, _+_, _/_}
 use lib.ListN.{take, drop}
 use lib.Seq.{sets}
-use lib.Dec.{leb, ltb, eqb}
+use lib.Dec.{eqb}
 use Rattle.kinds.specs.Event.{Parsed, WellFormed, Malformed}
 use Rattle.kinds.specs.Lanes.{Lane, xyL, endsL, zL, mL, tL, tmL, usable}
 use Rattle.kinds.specs.declared.event.Event.{Event}

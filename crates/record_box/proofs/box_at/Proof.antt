@@ -2,7 +2,6 @@ use mathlib.Core.Path.{_≡_, sym, ap, _∙_}
 use denote.Ref.{now}
 use borrow.Author.Needs.{needs}
 use Rattle.kinds.specs.Lanes.{xyL}
-use Rattle.kinds.specs.declared.geometry.Judged.{Judged}
 use Rattle.kinds.specs.declared.geometry.Lent.{Lent}
 use Rattle.store.specs.Lists.{poolsOf, lentOf}
 use Rattle.store.specs.RecordLaws.{within}

@@ -1,5 +1,5 @@
 use mathlib.Core.Path.{_≡_, refl, sym, ap, _∙_}
-use mathlib.Core.Bool.{Bool, true, false, _&&_}
+use mathlib.Core.Bool.{Bool, _&&_}
 use mathlib.Core.List.{List}
 use Prim.Native.Nat.{ℕ, _+_, _-_, _/_, _≤_, _<_}
 use native.Mathlib.Omega.{arith}
@@ -18,7 +18,7 @@ use Rattle.pending.specs.Growth.{grownValues}
 use Rattle.runs.specs.Events.{recordOf}
 use Rattle.writing.specs.Other.{other-below}
 use Rattle.pending.specs.Room.{room-in}
-use Rattle.runs.specs.Run.{Values, valuesOf, valuesRoom, pairRoom, pushed, Run, none-taken, whole-record, pair-taken, pair-blocked, quiet-taken, quiet-blocked, coordinate-taken, coordinate-blocked}
+use Rattle.runs.specs.Run.{valuesOf, valuesRoom, pairRoom, pushed, Run, none-taken, whole-record, pair-taken, pair-blocked, quiet-taken, quiet-blocked, coordinate-taken, coordinate-blocked}
 use Rattle.runs.proofs.run.take_plain.Statement.{statement}
 use Rattle.runs.proofs.run.take_plain.Tie as tie
 
