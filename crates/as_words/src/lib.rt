@@ -1,3 +1,2 @@
-// What the library's caller keeps or is handed, as words of a fixed number: a writer's state, a box's edges.
-pub mod edges;
+// What the library's caller keeps as words of a fixed number: a writer's state.
 pub mod state;

@@ -3,3 +3,4 @@ pub mod Doubles
 pub mod Laws
 pub mod Outcomes
 pub mod Pairs
+pub mod Edges

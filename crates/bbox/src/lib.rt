@@ -1,4 +1,7 @@
 // Boxes over words that are doubles as bit patterns.
+mod edges;
+
+pub use edges::edges_of;
 ghost use mathlib.Core.Path.{_≡_};
 ghost use lib.Ieee.{binary64, nanBits};
 ghost use Rattle.bbox.specs.Box.{least, greatest, moved, beginning, double, widen, boxFrom, bitsOf};

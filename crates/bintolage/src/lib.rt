@@ -1,10 +1,10 @@
 // The library that a machine builder links: every call, on plain numbers and lent memory.
-use as_words::edges::edges_of;
 use as_words::state::StateWords;
 use as_words::state::keep;
 use as_words::state::keep_all;
 use as_words::state::state_of;
 use as_words::state::words_of;
+use bbox::edges_of;
 use kinds::flags::Flags;
 ghost use mathlib.Core.Path.{_≡_};
 ghost use Rattle.laws.specs.Cut.{Said};
@@ -21,7 +21,7 @@ ghost use Rattle.writing.specs.Calls.{started, eventCall, finishCall, nextCall}
 ghost use Rattle.runs.specs.Events.{eventsCall};
 ghost use Rattle.writer.specs.Property.{propertyCall};
 ghost use Rattle.kinds.specs.Flags.{flagsOf};
-ghost use Rattle.as_words.specs.Edges.{edgesOf};
+ghost use Rattle.bbox.specs.Edges.{edgesOf};
 ghost use Rattle.as_words.specs.Words.{stateOf, wordsOf, wordsAfter};
 ghost use Rattle.bintolage.specs.Calls.{yes, one, kept, keptOf, taken, takenOf};
 

@@ -1,9 +1,9 @@
 -- The log: events as 64-byte records.
 use mathlib.Core.Path.{_≡_}
-use mathlib.Core.Bool.{true}
+use mathlib.Core.Bool.{true, cond}
 use mathlib.Core.List.{List}
-use Prim.Native.Nat.{ℕ}
-use lib.Dec.{lit<}
+use Prim.Native.Nat.{ℕ, _%_}
+use lib.Dec.{eqb, lit<}
 use Rattle.laws.specs.Script.{Format}
 use Rattle.event_layout.specs.Event.{eventBytes, readEvent}
 use Rattle.event_layout.specs.EventLaws.{event-length, event-back, event-forth}
@@ -31,3 +31,7 @@ pub record SaidAs (bytes : List ℕ) (e : Event) : Type 0 where
 pub said-heard : (bytes : List ℕ) (e : Event) → Bytes bytes → heard bytes ≡ WellFormed e → SaidAs bytes e
 unfolding heard events
 said-heard bytes e b h = let r = event-forth bytes e b h in record { laid = r .bytes; formed = r .formed }
+
+-- what is left of a list behind its whole records: nothing, or a tail, which is malformed
+abbrev pub restNumber : ℕ → ℕ
+restNumber long = cond (eqb (long % 64) 0) 0 11

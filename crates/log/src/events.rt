@@ -11,7 +11,7 @@ ghost use lib.ListN.{length};
 ghost use Rattle.laws.specs.Script.{one, out, run};
 ghost use Rattle.kinds.specs.declared.event.Event.{Event};
 ghost use Rattle.kinds.specs.Event.{WellFormed, toldApart, BareOf};
-ghost use Rattle.log.specs.Log.{events, heard};
+ghost use Rattle.log.specs.Log.{events, heard, restNumber};
 
 // What bytes are: a pair, a coordinate, a begin that sets no type, any other event, or malformed.
 pub fn hear(bytes: &[u8]) -> Heard
@@ -51,5 +51,16 @@ pub fn say(log: &mut [u8], count: usize, e: Event) -> Answer
     Answer {
         number: refusal::DONE,
         count: count + 1,
+    }
+}
+
+// What is left over behind the whole records of a list is malformed.
+pub fn rest_number(length: usize) -> u8
+    ensures { λ r. ⌜ r ≡ restNumber length ⌝ }
+{
+    if length % EVENT_BYTES == 0 {
+        refusal::DONE
+    } else {
+        refusal::MALFORMED
     }
 }

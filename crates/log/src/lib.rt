@@ -6,6 +6,7 @@ mod values;
 pub use events::event_in;
 pub use events::hear;
 pub use events::hear_bare;
+pub use events::rest_number;
 pub use events::say;
 pub use values::say_value;
 

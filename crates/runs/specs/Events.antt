@@ -2,7 +2,7 @@
 use mathlib.Core.Path.{_≡_, sym, ap, _∙_}
 use mathlib.Core.Bool.{cond}
 use mathlib.Core.List.{List}
-use Prim.Native.Nat.{ℕ, zero, suc, _+_, _/_, _%_}
+use Prim.Native.Nat.{ℕ, zero, suc, _+_, _/_}
 use lib.ListN.{length}
 use lib.Dec.{eqb}
 use borrow.Author.Tests.{eq-eqb, ne-eqb}
@@ -20,10 +20,6 @@ recordOf bytes i = block 64 bytes i
 
 abbrev pub recordsIn : List ℕ → ℕ
 recordsIn bytes = (length bytes + 63) / 64
-
--- what is left when every whole record is taken: nothing, or such a tail
-abbrev pub restNumber : ℕ → ℕ
-restNumber long = cond (eqb (long % 64) 0) 0 11
 
 -- ---- what a call comes to: answer, records taken, state, and the final contents of all lent memory
 pub record Progress : Type 0 where

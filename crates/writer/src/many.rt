@@ -2,10 +2,10 @@
 use frames::take_other;
 use kinds::geometry::Lent;
 use kinds::refusal;
+use log::rest_number;
 use runs::Stop;
 use runs::Took;
 use runs::blocked_number;
-use runs::rest_number;
 use runs::take_plain;
 use writing::ready::is_ready;
 use writing::state::State;

@@ -1,6 +1,6 @@
 use mathlib.Core.Path.{ap, _∙_}
 use Rattle.record_box.specs.declared.Boxed.{Boxed}
-use Rattle.as_words.specs.Edges.{edgesOf}
+use Rattle.bbox.specs.Edges.{edgesOf}
 use borrow.Author.Needs.{needs}
 use Rattle.bintolage.proofs.bintolage_box.Statement.{statement}
 use Rattle.bintolage.proofs.bintolage_box.Tie as tie

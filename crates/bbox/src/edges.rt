@@ -1,8 +1,8 @@
 // A box as words.
-use bbox::Box;
-use bbox::edge_bits;
+use crate::Box;
+use crate::edge_bits;
 ghost use mathlib.Core.Path.{_≡_};
-ghost use Rattle.as_words.specs.Edges.{edgesOf};
+ghost use Rattle.bbox.specs.Edges.{edgesOf};
 
 // The bit patterns of least x, least y, greatest x and greatest y.
 pub fn edges_of(around: Box) -> [u64; 4]

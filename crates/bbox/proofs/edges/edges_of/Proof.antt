@@ -1,7 +1,7 @@
-use Rattle.as_words.specs.Edges.{edgesOf}
+use Rattle.bbox.specs.Edges.{edgesOf}
 use borrow.Author.Needs.{needs}
-use Rattle.as_words.proofs.edges.edges_of.Statement.{statement}
-use Rattle.as_words.proofs.edges.edges_of.Tie as tie
+use Rattle.bbox.proofs.edges.edges_of.Statement.{statement}
+use Rattle.bbox.proofs.edges.edges_of.Tie as tie
 
 pub edges-of-spec : {M : Type 1} → statement M
 edges-of-spec =
