@@ -79,7 +79,7 @@ pub extern "C" fn bintolage_events(
         ⌜ taken r (now (count .exit)) (now (state .exit)) after ≡ takenOf words (eventsCall (stateOf words) before (now (records .entry))) ⌝ }
 {
     let before = *state;
-    let took = writer::events(state_of(before), records, table, xy, ends, z, m, t, tm);
+    let took = many::events(state_of(before), records, table, xy, ends, z, m, t, tm);
     keep_all(state, count, took)
 }
 

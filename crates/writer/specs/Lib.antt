@@ -1,4 +1,1 @@
-pub mod Refused
-pub mod OtherCall
-pub mod Going
 pub mod Property

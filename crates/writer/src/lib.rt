@@ -1,12 +1,11 @@
 // The geometry writer: events to tree, over the store.
-mod many;
 mod properties;
 
 use asking::typing::Typing;
 use kinds::event::Bare;
 use kinds::geometry::Lent;
 use kinds::refusal;
-pub use many::events;
+use many::events;
 use pending::words::Pending;
 use pending::words::Words;
 pub use properties::property;

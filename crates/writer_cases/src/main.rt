@@ -7,13 +7,13 @@ use as_words::state::StateWords;
 use replay::Tally;
 use replay::first;
 use replay::tally;
+use writer_calls::Turn;
 use writer_calls::expected;
 use writer_calls::expected::lent;
 use writer_calls::expected::lent_bytes;
-use writer_replay::Turn;
+use writer_calls::next_turn;
+use writer_calls::note;
 use writer_replay::call;
-use writer_replay::next_turn;
-use writer_replay::note;
 use writer_replay::property;
 
 fn report_given(counted: &Tally) {

@@ -5,3 +5,4 @@ pub mod Ready
 pub mod Apart
 pub mod Other
 pub mod Ends
+pub mod Refused

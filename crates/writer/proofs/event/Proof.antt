@@ -9,7 +9,7 @@ use Rattle.log.specs.LogLaws.{not-whole, behind}
 use Rattle.writing.specs.Calls.{isReady}
 use Rattle.writing.specs.State.{Mem, memOf}
 use Rattle.writing.specs.Ends.{malformed}
-use Rattle.writer.specs.Going.{one-record}
+use Rattle.many.specs.Going.{one-record}
 use Rattle.runs.specs.Run.{pair-alone}
 use Rattle.writer.proofs.event.Statement.{statement}
 use Rattle.writer.proofs.event.Tie as tie

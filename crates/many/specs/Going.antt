@@ -25,7 +25,7 @@ use Rattle.writing.specs.Ends.{malformed}
 use Rattle.runs.specs.Events.{recordOf, recordsIn, Progress, took, progress, eventsFrom, eventsCall, none-left, went-on, stopped}
 use Rattle.runs.specs.Plain.{blockedNumber}
 use Rattle.writing.specs.Ready.{same-ready, event-ready}
-use Rattle.writer.specs.Refused.{event-unchanged}
+use Rattle.writing.specs.Refused.{event-unchanged}
 use Rattle.runs.specs.Run.{Values, memWith, Run, BlockedAt}
 
 pub record Going (bytes : List ℕ) (s₀ : State) (k₀ : Mem) (ready : Bool) (taken : ℕ) (s : State) (k : Mem) : Type 0 where

@@ -15,12 +15,12 @@ use Rattle.writing.specs.declared.state.State.{State}
 use Rattle.writing.specs.Apart.{ready-of}
 use Rattle.writing.specs.Calls.{eventCall}
 use Rattle.runs.specs.Events.{recordOf, took, progress}
-use Rattle.writer.specs.Going.{Going, begun, at-run, at-end, at-blocked, at-malformed, at-refused, at-taken}
-use Rattle.writer.specs.OtherCall.{other-call}
+use Rattle.many.specs.Going.{Going, begun, at-run, at-end, at-blocked, at-malformed, at-refused, at-taken}
+use Rattle.many.specs.OtherCall.{other-call}
 use Rattle.runs.specs.Run.{Values, valuesOf, memWith, Stopped}
 use Rattle.writing.specs.State.{Mem, memOf, withPending, outcome}
-use Rattle.writer.proofs.many.events.Statement.{statement}
-use Rattle.writer.proofs.many.events.Tie as tie
+use Rattle.many.proofs.events.Statement.{statement}
+use Rattle.many.proofs.events.Tie as tie
 
 abbrev Inv-loop : tie.InvT-loop
 Inv-loop bytes table₀ xy₀ ends₀ z₀ m₀ t₀ tm₀ records ready state₀ taken₀ table xy ends z m t tm state taken =

@@ -1,0 +1,2 @@
+pub mod OtherCall
+pub mod Going
