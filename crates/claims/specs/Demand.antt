@@ -1,7 +1,7 @@
--- Demand 3: a fresh writer, any row of two-dimensional features of its declared type, nothing refused, and room in the log. Reading each finished tree repeats its events, and no other tree that reads to those events holds fewer geometries and numbers together.
+-- Demand 3, over the calls that a machine links: at the moment when the steps accepted since start are those of two-dimensional features of the declared type, the last of them finished, reading its tree into a log with room repeats its events, and no other tree that reads to those events holds fewer geometries and numbers together. Properties, refused calls and calls of many events may stand anywhere in between.
 use mathlib.Core.Path.{_≡_, refl, sym, ap, _∙_}
-use mathlib.Core.Bool.{Bool, true, false, cond}
-use mathlib.Core.List.{List, [], _∷_}
+use mathlib.Core.Bool.{true, false, cond}
+use mathlib.Core.List.{List, [], _∷_, _++_}
 use mathlib.Core.Option.{Option}
 use Prim.Native.Nat.{ℕ, _≤_}
 use native.Mathlib.Omega.{arith}
@@ -13,11 +13,10 @@ use Rattle.log.specs.Log.{events}
 use Rattle.store.specs.Records.{tableGood}
 use Rattle.reader.specs.Reading.{readS}
 use Rattle.reader.specs.Examples.{noFlags}
-use Rattle.writing.specs.declared.state.State.{State}
+use Rattle.asking.specs.declared.typing.Typing.{Typing}
 use Rattle.writing.specs.State.{Mem}
-use Rattle.writing.specs.Calls.{started}
-use Rattle.writer_model.specs.Writer.{Writer, afterAll, tree, finish, next}
-use Rattle.writer_model.specs.Rows.{start}
+use Rattle.bintolage.specs.Calls.{yes}
+use Rattle.writer_model.specs.Writer.{Writer, fresh, afterAll, tree, finish, next}
 use Rattle.writer_model.specs.Tree.{Holds}
 use Rattle.geometry.specs.Geometry.{Simple, point, lineString, polygon, multiPoint, multiLineString, multiPolygon, circularString, compoundCurve, curvePolygon, multiCurve, multiSurface, polyhedralSurface, tin, triangle, typeOf, deep, flatly, depth}
 use Rattle.geometry.specs.Events.{eventsOf}
@@ -29,8 +28,8 @@ use Rattle.format.specs.Writable.{Held, Writable}
 use Rattle.format.specs.Writes.{normal, resting, fresh-rests, ending, ending-means, ending-rests, declared, starts, over-is}
 use Rattle.least.specs.Sound.{treeSize}
 use Rattle.least.specs.Smallest.{smallest}
-use Rattle.claims.specs.Row.{Row}
-use Rattle.claims.specs.Repeats.{Writes, tree-held, next-writes}
+use Rattle.claims.specs.Row.{Lends, Step, finished, renewed, tookAll, Accepted, Row}
+use Rattle.claims.specs.Linked.{made, made-then, made-events, finished-tree}
 
 -- Point 1, LineString 2, Polygon 3, MultiPoint 4, MultiLineString 5 or MultiPolygon 6, without z, m, t and tm, with at least one line, ring or polygon wherever the type holds them
 abbrev pub Demanded : ℕ → Simple → Type 0
@@ -47,12 +46,13 @@ pub record Repeats (type : ℕ) (f : Simple) (m : Mem) : Type 0 where
   -- no table and pools whatsoever that read to these events hold less
   pub least : (table : List ℕ) (P : Pools) → readS noFlags (recordWith table P) type ≡ told (eventsOf noFlags 0 f) → treeSize (m .table) (m .pools) ≤ treeSize table P
 
--- each from a table of whole records
-abbrev pub EachRepeats : ℕ → List Simple → List Mem → Type 0
-EachRepeats type [] [] = Unit {0}
-EachRepeats type [] (m ∷ ms) = ⊥
-EachRepeats type (f ∷ fs) [] = ⊥
-EachRepeats type (f ∷ fs) (m ∷ ms) = (tableGood (m .table) ≡ true → Repeats type f m) × EachRepeats type fs ms
+-- ---- a feature's steps: its events and finish; features that are done with, each with next behind it
+abbrev pub featureSteps : Simple → List Step
+featureSteps f = tookAll (eventsOf noFlags 0 f) ++ finished ∷ []
+
+abbrev pub passed : List Simple → List Step
+passed [] = []
+passed (f ∷ fs) = featureSteps f ++ (renewed ∷ passed fs)
 
 -- ---- these six have few levels, and no curve rule applies to them
 flat-deep : {A : Type 0} (xs : List A) → deep flatly xs ≤ 1
@@ -81,47 +81,75 @@ under type other n e known = rw (sym e, known)
 agreed : (type : ℕ) (f : Simple) (stored : ℕ) → typeOf f ≡ type → typeOf f ≤ 6 → agrees type stored ≡ true
 agreed type f stored e h = rw (sym e) (six f stored h .0)
 
-module _ (type : ℕ) (detect promote : Bool) where
-  -- what the writer, between two features of its declared type, makes of one
+feature-made : (w : Writer) (f : Simple) → made w (featureSteps f) ≡ finish (afterAll w (eventsOf noFlags 0 f))
+feature-made w f = made-then w (tookAll (eventsOf noFlags 0 f)) (finished ∷ []) ∙ ap finish (made-events w (eventsOf noFlags 0 f))
+
+module _ (type detect promote : ℕ) where
+  -- a writer between two features of its declared type
+  abbrev between : ℕ → Writer
+  between current = resting (normal type current (yes detect) (yes promote))
+
+  -- what it makes of one
   module _ (current : ℕ) (f : Simple) (d : Demanded type f) where
     abbrev after : Writer
-    after = afterAll (resting (normal type current detect promote)) (eventsOf noFlags 0 f)
+    after = afterAll (between current) (eventsOf noFlags 0 f)
 
     known : eqb (typeOf f) 0 ≡ false
     known = six f 0 (d .1) .2
 
     then : ℕ
-    then = starts type current detect promote f (declared (sym (d .0))) .current
+    then = starts type current (yes detect) (yes promote) f (declared (sym (d .0))) .current
 
-    after-is : after ≡ ending (normal type then detect promote) (d .2)
+    abbrev typed : Typing
+    typed = normal type then (yes detect) (yes promote)
+
+    after-is : after ≡ ending typed (d .2)
     unfolding eventsOf then
     after-is =
-        over-is noFlags type current detect promote f (d .2) (declared (sym (d .0))) (d .3)
-        ∙ ap (λ (n : ℕ). ending (normal n then detect promote) (d .2)) (under type (cond detect (typeOf f) 0) (typeOf f) (d .0) known ∙ d .0)
+        over-is noFlags type current (yes detect) (yes promote) f (d .2) (declared (sym (d .0))) (d .3)
+        ∙ ap (λ (n : ℕ). ending (normal n then (yes detect) (yes promote)) (d .2)) (under type (cond (yes detect) (typeOf f) 0) (typeOf f) (d .0) known ∙ d .0)
 
-    goes-on : next (finish after) ≡ resting (normal type then detect promote)
-    goes-on = ap (λ (w : Writer). next (finish w)) after-is ∙ ending-rests (normal type then detect promote) (d .2)
+    goes-on : next (finish after) ≡ between then
+    goes-on = ap (λ (w : Writer). next (finish w)) after-is ∙ ending-rests typed (d .2)
 
     read-back : (m : Mem) → Holds (recordWith (m .table) (m .pools)) 0 (tree after) → Repeats type f m
     read-back m held =
         let get : ℕ → Option Rec = recordWith (m .table) (m .pools) in
-        let here : Holds get 0 (tree (ending (normal type then detect promote) (d .2))) = rw after-is at held in
-        let t : Tree get 0 type f = ending-means noFlags get (normal type then detect promote) type f (d .2) (d .3) (under type then (typeOf f) (d .0) known) here in
+        let here : Holds get 0 (tree (ending typed (d .2))) = rw after-is at held in
+        let t : Tree get 0 type f = ending-means noFlags get typed type f (d .2) (d .3) (under type then (typeOf f) (d .0) known) here in
         record {
           reads = λ L number count M room said. reads-said (m .table) (m .pools) noFlags 0 type f L number count M t (agreed type f (t .root .kind) (d .0) (d .1)) (six f 0 (d .1) .1) room said;
-          least = λ table P h. smallest noFlags f (d .2) (normal type then detect promote) (m .table) table (m .pools) P (d .3) here (typed table P h);
+          least = λ table P h. smallest noFlags f (d .2) typed (m .table) table (m .pools) P (d .3) here (under-its-type table P h);
         }
       where
-        typed : (table : List ℕ) (P : Pools) → readS noFlags (recordWith table P) type ≡ told (eventsOf noFlags 0 f) → readS noFlags (recordWith table P) (typeOf f) ≡ told (eventsOf noFlags 0 f)
-        typed table P h = ap (λ (n : ℕ). readS noFlags (recordWith table P) n) (d .0) ∙ h
+        under-its-type : (table : List ℕ) (P : Pools) → readS noFlags (recordWith table P) type ≡ told (eventsOf noFlags 0 f) → readS noFlags (recordWith table P) (typeOf f) ≡ told (eventsOf noFlags 0 f)
+        under-its-type table P h = ap (λ (n : ℕ). readS noFlags (recordWith table P) n) (d .0) ∙ h
 
-  each : (fs : List Simple) (ms : List Mem) (current : ℕ) (s : State) (k : Mem) → AllDemanded type fs → Writes s k (resting (normal type current detect promote)) → Row noFlags s k fs ms → EachRepeats type fs ms
-  each [] [] current s k d h Row.none = tt
-  each (f ∷ []) (_ ∷ []) current s k d h (Row.last read c a) = (λ whole. read-back current f (d .0) read (tree-held noFlags f _ h c read a whole), tt)
-  each (f ∷ fs) (_ ∷ ms) current s k d h (Row.more read m c a b q rest) = (
-    λ whole. read-back current f (d .0) read (tree-held noFlags f _ h c read a whole),
-    each fs ms (then current f (d .0)) _ _ (d .1) (rw (goes-on current f (d .0)) at (next-writes noFlags f _ h c m b q)) rest,
-  )
+  -- features that are done with leave it between two
+  passes : (fs : List Simple) (current : ℕ) → AllDemanded type fs → (later : ℕ) × (made (between current) (passed fs) ≡ between later)
+  passes [] current d = (current, refl)
+  passes (f ∷ fs) current d =
+      let w : Writer = between current in
+      let rest = passes fs (then current f (d .0)) (d .1) in
+      (
+        rest .0,
+        made-then w (featureSteps f) (renewed ∷ passed fs)
+        ∙ ap (λ (v : Writer). made (next v) (passed fs)) (feature-made w f)
+        ∙ ap (λ (v : Writer). made v (passed fs)) (goes-on current f (d .0))
+        ∙ rest .1,
+      )
 
-  pub demand-three : (k : Mem) (fs : List Simple) (ms : List Mem) → AllDemanded type fs → Row noFlags (started type detect promote) k fs ms → EachRepeats type fs ms
-  demand-three k fs ms d row = each fs ms 0 _ k d (record { pairs = []; reached = rw (fresh-rests type detect promote) at (start type detect promote k) }) row
+  module _ {words : List ℕ} {l : Lends} {a : Accepted} (fs : List Simple) (f : Simple) (ds : AllDemanded type fs) (d : Demanded type f) (row : Row type detect promote words l a) (so-far : a .steps ≡ passed fs ++ featureSteps f) where
+    abbrev current : ℕ
+    current = passes fs 0 ds .0
+
+    made-is : made (fresh type (yes detect) (yes promote)) (a .steps) ≡ finish (after current f d)
+    made-is =
+        ap (made (fresh type (yes detect) (yes promote))) so-far
+        ∙ made-then (fresh type (yes detect) (yes promote)) (passed fs) (featureSteps f)
+        ∙ ap (λ (w : Writer). made (made w (passed fs)) (featureSteps f)) (fresh-rests type (yes detect) (yes promote))
+        ∙ ap (λ (w : Writer). made w (featureSteps f)) (passes fs 0 ds .1)
+        ∙ feature-made (between current) f
+
+    pub demand-three : tableGood (l .mem .table) ≡ true → Repeats type f (l .mem)
+    demand-three whole = read-back current f d (l .mem) (finished-tree type detect promote row (after current f d) made-is whole)

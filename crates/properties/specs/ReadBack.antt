@@ -26,7 +26,7 @@ there front x e = length-append front x ∙ ap (λ (k : ℕ). length front + k) 
 reaches : (front x rest : List ℕ) {n : ℕ} → length x ≡ n → n ≤ length (front ++ (x ++ rest)) - length front
 reaches front x rest e = simp length-append (omega arith)
 
-part-here : (front x rest : List ℕ) {n : ℕ} → length x ≡ n → take n (drop (length front) (front ++ (x ++ rest))) ≡ x
+pub part-here : (front x rest : List ℕ) {n : ℕ} → length x ≡ n → take n (drop (length front) (front ++ (x ++ rest))) ≡ x
 part-here front x rest {n} e = rw (drop-append-seam front (x ++ rest)) (take-at x rest n e)
 
 module _ (column kind : ℕ) where

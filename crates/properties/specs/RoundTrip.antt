@@ -5,9 +5,10 @@ use mathlib.Core.List.{List, [], _∷_, _++_, append-assoc, append-nil}
 use Prim.Native.Nat.{ℕ, suc, _+_, _≤_, _<_}
 use native.Mathlib.Omega.{arith}
 use lib.Dec.{eqb, lit<}
-use lib.ListN.{length, getD, take, replicate, length-append, length-take}
+use lib.ListN.{length, getD, take, drop, replicate, length-append, length-take}
 use lib.Seq.{length-sets}
 use borrow.Author.Tests.{ne-eqb}
+use Rattle.laws.specs.Bytes.{le}
 use Rattle.laws.specs.Script.{Script, stop, say}
 use Rattle.kinds.specs.declared.value.Value.{Value}
 use Rattle.utf8.specs.Utf8.{isUtf8, firstBad, run, charLength, rowOf, begins, has}
@@ -15,9 +16,9 @@ use Rattle.property_value.specs.Column.{widthOf, isText}
 use Rattle.property_writer.specs.declared.PropertyPut.{PropertyPut}
 use Rattle.property_writer.specs.Writing.{textBytes, laidDown, propertyBytes, refusalOf, putOf, bytesAfter}
 use Rattle.property_value.specs.Value.{malformed, textOk}
-use Rattle.property_writer.specs.WritingLaws.{Accepted, accepted, put-done, bytes-done, used-then}
+use Rattle.property_writer.specs.WritingLaws.{value-text, Accepted, accepted, put-done, bytes-done, used-then}
 use Rattle.property_reader.specs.Reading.{propertiesFrom, reading}
-use Rattle.properties.specs.ReadBack.{Writable, valueBack, read-back}
+use Rattle.properties.specs.ReadBack.{part-here, Writable, valueBack, read-back}
 use Rattle.property_reader.specs.ReadingLaws.{read-end, read-whole}
 
 -- what is handed to one write
@@ -38,6 +39,13 @@ pub data Wrote : List ℕ → ℕ → List Property → List ℕ → ℕ → Typ
       → refusalOf false used (p .column) (p .kind) (p .bits) (p .text) (length lends) ≡ 0
       → Wrote (bytesAfter false used (p .column) (p .kind) (p .bits) (p .text) lends) (putOf false used (p .column) (p .kind) (p .bits) (p .text) lends .used) ps after then
       → Wrote buffer used (p ∷ ps) after then
+
+-- a write more
+pub one-more : {buffer after : List ℕ} {used then : ℕ} {ps : List Property} (p : Property) (lends : List ℕ) → Wrote buffer used ps after then
+    → take then lends ≡ take then after → refusalOf false then (p .column) (p .kind) (p .bits) (p .text) (length lends) ≡ 0
+    → Wrote buffer used (ps ++ p ∷ []) (bytesAfter false then (p .column) (p .kind) (p .bits) (p .text) lends) (putOf false then (p .column) (p .kind) (p .bits) (p .text) lends .used)
+one-more p lends none same done = one lends same done none
+one-more p lends (one before agrees taken rest) same done = one before agrees taken (one-more p lends rest same done)
 
 -- the column list gives each property's column its type
 pub data Typed (columns : List ℕ) : List Property → Type 0 where
@@ -104,6 +112,25 @@ used-bytes (one {buffer = buffer} {used = used} {p = p} {ps = ps} lends same don
       within = later .within;
       usable = later .usable;
     }
+
+-- they are the properties' bytes, in order
+pub bytes-joined : {buffer after : List ℕ} {then : ℕ} {ps : List Property} → Wrote buffer 0 ps after then → take then after ≡ joined ps
+bytes-joined wrote = used-bytes wrote (omega arith) (omega arith) .bytes
+
+joined-split : (before : List Property) (p : Property) (behind : List Property) → joined (before ++ p ∷ behind) ≡ joined before ++ (bytesOf p ++ joined behind)
+joined-split [] p behind = refl
+joined-split (q ∷ before) p behind = ap (λ (l : List ℕ). bytesOf q ++ l) (joined-split before p behind) ∙ sym (append-assoc (bytesOf q) (joined before) (bytesOf p ++ joined behind))
+
+-- a text stands where its value says, six bytes behind the properties before it
+pub text-there : (before : List Property) (p : Property) (behind : List Property) → 11 ≤ p .kind → take (length (p .text)) (drop (length (joined before) + 6) (joined (before ++ p ∷ behind))) ≡ p .text
+unfolding propertyBytes textBytes
+text-there before p behind h =
+    let head : List ℕ = le 2 (p .column) ++ le 4 (length (p .text)) in
+    let bytes : bytesOf p ≡ head ++ p .text = ap (λ (l : List ℕ). le 2 (p .column) ++ l) (value-text (p .kind) (p .bits) (p .text) h) in
+    let all : joined (before ++ p ∷ behind) ≡ (joined before ++ head) ++ (p .text ++ joined behind)
+    = joined-split before p behind ∙ ap (λ (l : List ℕ). joined before ++ (l ++ joined behind)) bytes ∙ ap (λ (l : List ℕ). joined before ++ l) (append-assoc head (p .text) (joined behind)) ∙ sym (append-assoc (joined before) head (p .text ++ joined behind)) in
+    let long : length (joined before ++ head) ≡ length (joined before) + 6 = length-append (joined before) head in
+    rw (all, ← long) (part-here (joined before ++ head) (p .text) (joined behind) refl)
 
 -- ---- read where they stand
 module _ (columns : List ℕ) (last : ℕ) (none-named : 65536 ≤ last) where

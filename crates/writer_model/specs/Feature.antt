@@ -20,7 +20,7 @@ use Rattle.writer_model.specs.Lengths.{SameLengths, lent-same, call-leng
 use Rattle.writer_model.specs.Pairs.{pendingAt}
 use Rattle.writer_model.specs.Rows.{Reached, accepted, row-stands}
 use Rattle.writer_model.specs.Tree.{Holds, tree-read}
-use Rattle.writer_model.specs.Fed.{agrees-self, takes, fedState, fedTo, fedMem, pairsOf, Fed, fed}
+use Rattle.writer_model.specs.Fed.{takes, fedState, fedTo, fedMem, pairsOf, Fed, fed}
 
 abbrev pub finishes : State → ℕ → Lent → List Event → Bool
 finishes s records pools es = takes s records pools es && eqb (decideFinish (fedState s records pools es) records pools .number) 0
@@ -66,7 +66,7 @@ module _ (s : State) (k : Mem) (w : Writer) (l : List ℕ) (es : List Event) (ok
   finished-is = ap (λ r. r .state) (took-finish end left done .is)
 
   pub finish-reached : Reached (finished end) (finishedMem s k es) (finish (afterAll w es)) (l ++ pairsOf es)
-  finish-reached = rw finished-is at (accepted left finishC (agrees-self end left) done (so-far .reached))
+  finish-reached = rw finished-is at (accepted finishC done (so-far .reached))
 
   -- the tree is read from the memory that finish leaves
   pub tree-left : tableGood (k .table) ≡ true → Holds (recordWith (finishedMem s k es .table) (finishedMem s k es .pools)) 0 (tree (afterAll w es))
@@ -86,7 +86,7 @@ module _ (s : State) (k : Mem) (w : Writer) (l : List ℕ) (es : List Event) (ok
     renewed-is = ap (λ r. r .state) (took-next (finished end) (finishedMem s k es) goes-on .is)
 
     pub next-reached : Reached (renewed (finished end)) (nextMem s k es) (next (finish (afterAll w es))) (pendingAt (finished end .pending .xy) (finishedMem s k es .pools .xy))
-    next-reached = rw renewed-is at (accepted (finishedMem s k es) nextC (agrees-self (finished end) (finishedMem s k es)) goes-on finish-reached)
+    next-reached = rw renewed-is at (accepted nextC goes-on finish-reached)
 
     pub next-lengths : SameLengths k (nextMem s k es)
     next-lengths =

@@ -57,10 +57,10 @@ sized-is e h =
 abbrev pub given : State → Mem → Event → Outcome
 given s k e = eventWith s (askOf (s .typing) e) e k
 
-pub said-reached : {s : State} {k : Mem} {w : Writer} {l : List ℕ} (m : Mem) (e : Event) → EventSized e → wellFormed e ≡ true → Agrees s k m → given s m e .wrote .number ≡ 0 → Reached s k w l
-    → Reached (given s m e .wrote .state) (given s m e .mem) (after w e) (l ++ pairOf e)
+pub said-reached : {s : State} {k : Mem} {w : Writer} {l : List ℕ} (e : Event) → EventSized e → wellFormed e ≡ true → given s k e .wrote .number ≡ 0 → Reached s k w l
+    → Reached (given s k e .wrote .state) (given s k e .mem) (after w e) (l ++ pairOf e)
 unfolding eventCall
-said-reached m e fits formed a q r = rw (hear-said e fits formed) at (accepted m (eventC (events .bytes e)) a (rw (hear-said e fits formed) q) r)
+said-reached {s} {k} {w} {l} e fits formed q r = rw (hear-said e fits formed) at (accepted {s = s} {k = k} {w = w} {l = l} (eventC (events .bytes e)) (rw (hear-said e fits formed) q) r)
 
 -- ---- a row of events, each lent what the last one left; the tests see the numbers of records and words that are lent
 abbrev pub decided : State → ℕ → Lent → Event → Wrote
@@ -100,7 +100,7 @@ fed (e ∷ es) s k w l h r =
     let q : o .wrote .number ≡ 0 = eqb-true _ 0 (b .1) in
     let n = event-lengths s k e q in
     let t : takes (o .wrote .state) (recordsLent (o .mem .table)) (lentOf (o .mem .pools)) es ≡ true = rw (n .table, lent-same k (o .mem) n) (a .1) in
-    let f = fed es (o .wrote .state) (o .mem) (after w e) (l ++ pairOf e) t (said-reached k e (sized-is e (c .1)) (c .0) (agrees-self s k) q r) in
+    let f = fed es (o .wrote .state) (o .mem) (after w e) (l ++ pairOf e) t (said-reached e (sized-is e (c .1)) (c .0) q r) in
     record {
       reached = rw (n .table, lent-same k (o .mem) n, append-assoc) at (f .reached);
       lengths = record { table = f .lengths .table ∙ n .table; pools = λ m. f .lengths .pools m ∙ n .pools m };

@@ -3,7 +3,6 @@ use mathlib.Core.Path.{_≡_, refl, sym, ap, _∙_}
 use mathlib.Core.Bool.{Bool, true, false, cond}
 use Prim.Native.Nat.{ℕ, _+_}
 use lib.Dec.{leb, ltb, eqb}
-use borrow.Author.Tests.{ne-eqb}
 use Rattle.kinds.specs.declared.event.Event.{Event}
 use Rattle.kinds.specs.Event.{Parsed}
 use Rattle.kinds.specs.Event.{WellFormed, Malformed}
@@ -13,7 +12,8 @@ use Rattle.writing.specs.declared.state.Wrote.{Wrote}
 use Rattle.asking.specs.declared.set_type.Typed.{Typed}
 use Rattle.asking.specs.declared.set_type.Typed.the-variants.{Set, Mixed}
 use Rattle.asking.specs.declared.ask.Ask.{Ask}
-use Rattle.writing.specs.State.{Mem, Outcome, wrote, settled}
+use Rattle.writing.specs.State.{Mem, Outcome, outcome, wrote}
+use Rattle.writing.specs.Refused.{event-unchanged, finish-unchanged, next-unchanged}
 use Rattle.asking.specs.SetType.{typedNumber}
 use Rattle.asking.specs.Ask.{noWords, askOf, begun}
 use Rattle.writing.specs.Calls.{recordsFor, stateAfter, roomOr, decideTyped, decideEvent, eventWith, eventOf, eventCall, finished, decideFinish, finishCall, renewed, decideNext, nextCall}
@@ -28,38 +28,13 @@ pub record Unchanged (s : State) (k : Mem) (o : Outcome) : Type 0 where
   pub state : o .wrote .state ≡ s
   pub mem : o .mem ≡ k
 
-settled-refused : (r : Wrote) (s : State) (k after : Mem) → (r .number ≡ 0 → ⊥) → r .state ≡ s → Unchanged s k (settled r k after)
-settled-refused r s k after h e = record { state = e; mem = rw (ne-eqb (r .number) 0 h) }
+unchanged : {s : State} {k : Mem} {o : Outcome} → o ≡ outcome (wrote (o .wrote .number) s) k → Unchanged s k o
+unchanged e = record { state = ap (λ (o : Outcome). o .wrote .state) e; mem = ap (λ (o : Outcome). o .mem) e }
 
-module _ (s : State) (k : Mem) where
-  room-refused : (b : Bool) (t : State) → (roomOr s b t .number ≡ 0 → ⊥) → roomOr s b t .state ≡ s
-  room-refused true t h = absurd (h refl)
-  room-refused false t h = refl
-
-  turn-refused : (b : Bool) (r : Wrote) → ((r .number ≡ 0 → ⊥) → r .state ≡ s) → (cond b (wrote 15 s) r .number ≡ 0 → ⊥) → cond b (wrote 15 s) r .state ≡ s
-  turn-refused true r f h = refl
-  turn-refused false r f h = f h
-
-  typed-refused : (a : Ask) (b : Bool) (o : Typed) → (decideTyped s a b o .number ≡ 0 → ⊥) → decideTyped s a b o .state ≡ s
-  typed-refused a b Mixed h = refl
-  typed-refused a b (Set g) h = room-refused b (stateAfter s a g) h
-
-  heard-refused : (p : Parsed) → (eventOf s k p .wrote .number ≡ 0 → ⊥) → Unchanged s k (eventOf s k p)
-  unfolding eventWith decideEvent
-  heard-refused Malformed h = record { state = refl; mem = refl }
-  heard-refused (WellFormed e) h =
-      let a : Ask = askOf (s .typing) e in
-      settled-refused _ s k _ h (turn-refused (s .waiting) _ (typed-refused a (room (s .pending) (a .added) (recordsFor s a) k) (a .typed)) h)
-
-  next-refused : (b c : Bool) → (cond b (roomOr s c (renewed s)) (wrote 15 s) .number ≡ 0 → ⊥) → cond b (roomOr s c (renewed s)) (wrote 15 s) .state ≡ s
-  next-refused true c h = room-refused c (renewed s) h
-  next-refused false c h = refl
-
-  pub refused : (c : Call) → (called s k c .wrote .number ≡ 0 → ⊥) → Unchanged s k (called s k c)
-  unfolding eventCall finishCall decideFinish nextCall decideNext
-  refused (eventC bytes) h = heard-refused (heard bytes) h
-  refused finishC h = settled-refused _ s k _ h (turn-refused (s .waiting) _ (room-refused (room (s .pending) noWords (s .parts + 1) k) (finished s)) h)
-  refused nextC h = settled-refused _ s k _ h (next-refused (s .waiting) (room (s .pending) noWords (s .parts + 1) k) h)
+pub refused : (s : State) (k : Mem) (c : Call) → (called s k c .wrote .number ≡ 0 → ⊥) → Unchanged s k (called s k c)
+refused s k (eventC bytes) h = unchanged (event-unchanged s k bytes h)
+refused s k finishC h = unchanged (finish-unchanged s k h)
+refused s k nextC h = unchanged (next-unchanged s k h)
 
 -- ---- the numbers
 nay-is : (w : Writer) (e : Event) → nay w e ≡ cond (waits w) 15 (typedNumber (askOf (w .typing) e .typed))

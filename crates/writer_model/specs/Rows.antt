@@ -59,10 +59,11 @@ module _ (s : State) (k : Mem) (w : Writer) (h : Stands s k w) where
   call-xy finishC l q e = finish-xy w (no-root s k w h (took-finish s k q .going)) ∙ e
   call-xy nextC l q e = next-xy w ∙ sym (h .pending xyL .there)
 
--- ---- any row: each call is lent any memory that agrees with what the last accepted one left, and properties may be written between them
+-- ---- any row: between calls all that the state does not use of the memory may change, and properties may be written; a refused call may be lent anything
 pub data Reached : State → Mem → Writer → List ℕ → Type 0 where
   start : (declared : ℕ) (detect promote : Bool) (k : Mem) → Reached (started declared detect promote) k (fresh declared detect promote) []
-  accepted : {s : State} {k : Mem} {w : Writer} {l : List ℕ} (m : Mem) (c : Call) → Agrees s k m → called s m c .wrote .number ≡ 0 → Reached s k w l → Reached (called s m c .wrote .state) (called s m c .mem) (afterCall w c) (pairsAfter s m c l)
+  lent : {s : State} {k : Mem} {w : Writer} {l : List ℕ} (m : Mem) → Agrees s k m → Reached s k w l → Reached s m w l
+  accepted : {s : State} {k : Mem} {w : Writer} {l : List ℕ} (c : Call) → called s k c .wrote .number ≡ 0 → Reached s k w l → Reached (called s k c .wrote .state) (called s k c .mem) (afterCall w c) (pairsAfter s k c l)
   property : {s : State} {k : Mem} {w : Writer} {l : List ℕ} (n : ℕ) → Reached s k w l → Reached (withProperties s n) k w l
   refusal : {s : State} {k : Mem} {w : Writer} {l : List ℕ} (m : Mem) (c : Call) → (called s m c .wrote .number ≡ 0 → ⊥) → Reached s k w l → Reached (called s m c .wrote .state) k w l
 
@@ -72,10 +73,8 @@ reached (start declared detect promote k) = (stands-start declared detect promot
   where
     empty : allXy (fresh declared detect promote) ≡ []
     empty = unfold fresh in refl
-reached (accepted {s = s} {k = k} {w = w} {l = l} m c a q r) =
-    let t = reached r in
-    let h = stands-agree s k m w a (t .0) in
-    (call-stands s m w h c q, call-xy s m w h c l q (t .1))
+reached (lent {s = s} {k = k} {w = w} m a r) = let t = reached r in (stands-agree s k m w a (t .0), t .1)
+reached (accepted {s = s} {k = k} {w = w} {l = l} c q r) = let t = reached r in (call-stands s k w (t .0) c q, call-xy s k w (t .0) c l q (t .1))
 reached (property {s = s} {k = k} {w = w} n r) = let t = reached r in (stands-properties s k w n (t .0), t .1)
 reached (refusal {s = s} {k = k} {w = w} m c q r) = let t = reached r in (rw (refused s m c q .state) (t .0), t .1)
 
