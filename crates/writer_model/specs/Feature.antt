@@ -56,8 +56,8 @@ module _ (s : State) (k : Mem) (w : Writer) (l : List ℕ) (es : List Event) (ok
   unfolding finishCall
   done = rw (so-far .lengths .table, lent-same k left (so-far .lengths)) (eqb-true _ 0 (both (takes s (recordsLent (k .table)) (lentOf (k .pools)) es) _ ok .1))
 
-  lengths : SameLengths k (finishedMem s k es)
-  lengths =
+  pub finish-lengths : SameLengths k (finishedMem s k es)
+  finish-lengths =
       let n = call-lengths end left finishC done in
       record { table = n .table ∙ so-far .lengths .table; pools = λ m. n .pools m ∙ so-far .lengths .pools m }
 
@@ -73,13 +73,13 @@ module _ (s : State) (k : Mem) (w : Writer) (l : List ℕ) (es : List Event) (ok
   unfolding finished finish
   tree-left whole =
       let v : Writer = afterAll w es in
-      tree-read (finished end) (finishedMem s k es) (finish v) (row-stands finish-reached) (rootOver v (v .parts)) refl (whole-same k _ lengths whole)
+      tree-read (finished end) (finishedMem s k es) (finish v) (row-stands finish-reached) (rootOver v (v .parts)) refl (whole-same k _ finish-lengths whole)
 
   -- after the feature is finished, the next one begins
   module _ (goes : decideNext (finished end) (recordsLent (k .table)) (lentOf (k .pools)) .number ≡ 0) where
     pub goes-on : nextCall (finished end) (finishedMem s k es) .wrote .number ≡ 0
     unfolding nextCall
-    goes-on = rw (lengths .table, lent-same k (finishedMem s k es) lengths) goes
+    goes-on = rw (finish-lengths .table, lent-same k (finishedMem s k es) finish-lengths) goes
 
     pub renewed-is : nextCall (finished end) (finishedMem s k es) .wrote .state ≡ renewed (finished end)
     unfolding nextCall
@@ -91,4 +91,4 @@ module _ (s : State) (k : Mem) (w : Writer) (l : List ℕ) (es : List Event) (ok
     pub next-lengths : SameLengths k (nextMem s k es)
     next-lengths =
         let n = call-lengths (finished end) (finishedMem s k es) nextC goes-on in
-        record { table = n .table ∙ lengths .table; pools = λ m. n .pools m ∙ lengths .pools m }
+        record { table = n .table ∙ finish-lengths .table; pools = λ m. n .pools m ∙ finish-lengths .pools m }

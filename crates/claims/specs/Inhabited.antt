@@ -1,0 +1,287 @@
+-- Rows of the calls there are: two fields one after the other, the first with a keep-out ring; a field in two blocks, behind a refused call and a property; many events in one call, which stops at a refusal.
+use mathlib.Core.Path.{_≡_, refl, sym, ap, _∙_}
+use mathlib.Core.Bool.{true, false, _&&_, cond}
+use mathlib.Core.List.{List, [], _∷_, _++_, append-nil, append-assoc}
+use mathlib.Core.Option.{none}
+use Prim.Native.Nat.{ℕ, _<_}
+use native.Mathlib.Omega.{arith}
+use lib.Dec.{eqb}
+use lib.ListN.{replicate}
+use borrow.Author.Tests.{eqb-true, eq-eqb}
+use Rattle.laws.specs.Every.{both}
+use Rattle.laws.specs.Cut.{bytesOf}
+use Rattle.kinds.specs.Event.{EventSized, beginE, endE, xyE, wellFormed, WellFormed}
+use Rattle.kinds.specs.declared.event.Event.{Event}
+use Rattle.event_layout.specs.Event.{eventBytes, eventOf, spareZero, readEvent}
+use Rattle.store.specs.Lists.{lentOf}
+use Rattle.log.specs.Log.{events, heard, hear-said}
+use Rattle.store.specs.Records.{recordsLent, tableGood}
+use Rattle.reader.specs.Examples.{noFlags}
+use Rattle.writing.specs.declared.state.State.{State}
+use Rattle.writing.specs.State.{Mem, Outcome}
+use Rattle.asking.specs.SetType.{setType}
+use Rattle.asking.specs.Ask.{askOf, begun}
+use Rattle.pending.specs.Room.{hasRoom}
+use Rattle.pending.specs.Growth.{grownAll, pastAll}
+use Rattle.writing.specs.Calls.{started, stateAfter, decideEvent, tableAfter, memAfter, eventWith, eventCall, finished, decideFinish, finishCall, renewed, decideNext, nextCall}
+use Rattle.property_value.specs.Column.{widthOf, isText}
+use Rattle.property_value.specs.Value.{malformed, textOk}
+use Rattle.property_writer.specs.Writing.{laidDown, propertyBytes, refusalOf, putOf, bytesAfter}
+use Rattle.properties.specs.RoundTrip.{Property}
+use Rattle.writer.specs.Property.{propertyCall}
+use Rattle.runs.specs.Events.{eventsFrom, eventsCall}
+use Rattle.as_words.specs.Words.{stateOf, wordsOf}
+use Rattle.as_words.specs.WordLaws.{state-words}
+use Rattle.as_words.specs.Stays.{started-bytes}
+use Rattle.bintolage.specs.Calls.{yes, keptOf, takenOf}
+use Rattle.writer_model.specs.Writer.{Writer, fresh}
+use Rattle.writer_model.specs.BenchCalls.{blank}
+use Rattle.writer_model.specs.Call.{eventC, finishC, nextC}
+use Rattle.writer_model.specs.Lengths.{lent-same, event-lengths}
+use Rattle.writer_model.specs.Pairs.{pairOf, pendingAt}
+use Rattle.writer_model.specs.Rows.{Reached, start as begins}
+use Rattle.writer_model.specs.Feature.{finishesIn, finishedMem, nextMem, finishes-same, whole-same, done, finished-is, finish-lengths, goes-on, renewed-is, next-lengths}
+use Rattle.writer_model.specs.Fed.{sized, sized-is, given, takes, fedTo, fedMem, pairsOf}
+use Rattle.geometry.specs.Geometry.{Coord, Line, Simple, polygon, multiPolygon}
+use Rattle.geometry.specs.Events.{eventsOf}
+use Rattle.format.specs.Writable.{All, Has, a-polygon, many-polygons}
+use Rattle.claims.specs.Row.{Lends, lends, event, events as many, property, finish, next, leaves, accepts, heardFrom, Accepted, nothing, withEvents, withProperty, withFinish, withNext, tookAll, put, bytesPut, Row, start, call, refused}
+use Rattle.claims.specs.Linked.{made, call-state, put-state, refused-state, row-reached}
+use Rattle.claims.specs.Demand.{Demanded, AllDemanded, Repeats, featureSteps, passed, demand-three}
+
+-- ---- a row that comes to a state
+module _ (declared detect promote : ℕ) where
+  record At (s : State) (l : Lends) (a : Accepted) : Type 0 where
+    words : List ℕ
+    holds : stateOf words ≡ s
+    row : Row declared detect promote words l a
+
+  at-start : (l : Lends) → declared < 256 → At (started declared (yes detect) (yes promote)) l nothing
+  at-start l small = record { words = _; holds = state-words _ (started-bytes declared (yes detect) (yes promote) small); row = start l small }
+
+  event-done : {words : List ℕ} {l : Lends} {a : Accepted} (e : Event) (bytes : List ℕ) → heard bytes ≡ WellFormed e → eventCall (stateOf words) (l .mem) bytes .wrote .number ≡ 0 → Row declared detect promote words l a
+      → At (eventCall (stateOf words) (l .mem) bytes .wrote .state) (lends (eventCall (stateOf words) (l .mem) bytes .mem) (l .buffer)) (withEvents a (e ∷ []))
+  unfolding keptOf
+  event-done {words} {l} {a} e bytes hears done row = record {
+    words = _;
+    holds = call-state words (l .mem) (eventC bytes);
+    row = rw (eq-eqb _ 0 done, hears) at (call (event bytes) row);
+  }
+
+  finish-done : {words : List ℕ} {l : Lends} {a : Accepted} → finishCall (stateOf words) (l .mem) .wrote .number ≡ 0 → Row declared detect promote words l a
+      → At (finishCall (stateOf words) (l .mem) .wrote .state) (lends (finishCall (stateOf words) (l .mem) .mem) (l .buffer)) (withFinish a)
+  unfolding keptOf
+  finish-done {words} {l} {a} done row = record { words = _; holds = call-state words (l .mem) finishC; row = rw (eq-eqb _ 0 done) at (call finish row) }
+
+  next-done : {words : List ℕ} {l : Lends} {a : Accepted} → nextCall (stateOf words) (l .mem) .wrote .number ≡ 0 → Row declared detect promote words l a
+      → At (nextCall (stateOf words) (l .mem) .wrote .state) (lends (nextCall (stateOf words) (l .mem) .mem) (l .buffer)) (withNext a (pendingAt (stateOf words .pending .xy) (l .mem .pools .xy)))
+  unfolding keptOf
+  next-done {words} {l} {a} done row = record { words = _; holds = call-state words (l .mem) nextC; row = rw (eq-eqb _ 0 done) at (call next row) }
+
+  put-done : {words : List ℕ} {l : Lends} {a : Accepted} (p : Property) → put words p (l .buffer) .number ≡ 0 → Row declared detect promote words l a
+      → At (put words p (l .buffer) .state) (lends (l .mem) (bytesPut words p (l .buffer))) (withProperty a p)
+  put-done {words} {l} {a} p done row = record { words = _; holds = put-state words p (l .buffer); row = rw (eq-eqb _ 0 done) at (call (property p) row) }
+
+  -- a refused call may be lent anything
+  at-refused : {s : State} {l : Lends} {a : Accepted} (k : Mem) → (eventCall s k [] .wrote .number ≡ 0 → ⊥) → At s l a → At s l a
+  unfolding keptOf
+  at-refused {l = l} k nay r = record {
+    words = _;
+    holds = refused-state declared detect promote (r .words) (lends k (l .buffer)) (event []) (rw (r .holds) nay) ∙ r .holds;
+    row = refused {words = r .words} (lends k (l .buffer)) (event []) (rw (r .holds) nay) (r .row);
+  }
+
+  at-property : {s : State} {l : Lends} {a : Accepted} (p : Property) → propertyCall s (p .column) (p .kind) (p .bits) (p .text) (l .buffer) .number ≡ 0 → At s l a
+      → At (propertyCall s (p .column) (p .kind) (p .bits) (p .text) (l .buffer) .state) (lends (l .mem) (bytesAfter (s .waiting) (s .properties) (p .column) (p .kind) (p .bits) (p .text) (l .buffer))) (withProperty a p)
+  at-property {s} {l} {a} p done r = rw (r .holds) at (put-done {words = r .words} {l = l} {a = a} p (rw (r .holds) done) (r .row))
+
+  -- ---- events that pass the test of lengths, each lent what the last one left
+  with-none : (a : Accepted) → a ≡ withEvents a []
+  with-none a = λ i. record { steps = sym (append-nil (a .steps)) i; pairs = sym (append-nil (a .pairs)) i; properties = a .properties }
+
+  with-more : (a : Accepted) (e : Event) (es : List Event) → withEvents (withEvents a (e ∷ [])) es ≡ withEvents a (e ∷ es)
+  with-more a e es = λ i. record {
+    steps = append-assoc (a .steps) (tookAll (e ∷ [])) (tookAll es) i;
+    pairs = (ap (λ (l : List ℕ). (a .pairs ++ l) ++ pairsOf es) (append-nil (pairOf e)) ∙ append-assoc (a .pairs) (pairOf e) (pairsOf es)) i;
+    properties = a .properties;
+  }
+
+  at-one : (e : Event) (s : State) (k : Mem) (buffer : List ℕ) (a : Accepted) → EventSized e → wellFormed e ≡ true → given s k e .wrote .number ≡ 0 → At s (lends k buffer) a
+      → At (given s k e .wrote .state) (lends (given s k e .mem) buffer) (withEvents a (e ∷ []))
+  unfolding eventCall
+  at-one e s k buffer a fits formed done r =
+      let hears = hear-said e fits formed in
+      rw (r .holds, hears) at (event-done e (events .bytes e) hears (rw (r .holds, hears) done) (r .row))
+
+  -- the first of several
+  module _ (e : Event) (es : List Event) (s : State) (k : Mem) (h : takes s (recordsLent (k .table)) (lentOf (k .pools)) (e ∷ es) ≡ true) where
+    abbrev one : Outcome
+    one = given s k e
+
+    apart : (wellFormed e ≡ true) × (sized e ≡ true) × (one .wrote .number ≡ 0) × (takes (one .wrote .state) (recordsLent (k .table)) (lentOf (k .pools)) es ≡ true)
+    unfolding eventWith
+    apart =
+        let b = both (wellFormed e && sized e && eqb (one .wrote .number) 0) (takes (one .wrote .state) (recordsLent (k .table)) (lentOf (k .pools)) es) h in
+        let c = both (wellFormed e && sized e) (eqb (one .wrote .number) 0) (b .0) in
+        let d = both (wellFormed e) (sized e) (c .0) in
+        (d .0, d .1, eqb-true _ 0 (c .1), b .1)
+
+    takes-rest : takes (one .wrote .state) (recordsLent (one .mem .table)) (lentOf (one .mem .pools)) es ≡ true
+    takes-rest = let n = event-lengths s k e (apart .2) in rw (n .table, lent-same k (one .mem) n) (apart .3)
+
+    at-first : (buffer : List ℕ) (a : Accepted) → At s (lends k buffer) a → At (one .wrote .state) (lends (one .mem) buffer) (withEvents a (e ∷ []))
+    at-first buffer a r = at-one e s k buffer a (sized-is e (apart .1)) (apart .0) (apart .2) r
+
+    at-rest : (buffer : List ℕ) (a : Accepted) → At (fedTo (one .wrote .state) (one .mem) es) (lends (fedMem (one .wrote .state) (one .mem) es) buffer) (withEvents (withEvents a (e ∷ [])) es)
+        → At (fedTo s k (e ∷ es)) (lends (fedMem s k (e ∷ es)) buffer) (withEvents a (e ∷ es))
+    unfolding eventWith
+    at-rest buffer a r = let n = event-lengths s k e (apart .2) in rw (n .table, lent-same k (one .mem) n, with-more a e es) at r
+
+  at-all : (es : List Event) (s : State) (k : Mem) (buffer : List ℕ) (a : Accepted) → takes s (recordsLent (k .table)) (lentOf (k .pools)) es ≡ true → At s (lends k buffer) a
+      → At (fedTo s k es) (lends (fedMem s k es) buffer) (withEvents a es)
+  at-all [] s k buffer a h r = rw (← (with-none a)) r
+  at-all (e ∷ es) s k buffer a h r = at-rest e es s k h buffer a (at-all es (given s k e .wrote .state) (given s k e .mem) buffer (withEvents a (e ∷ [])) (takes-rest e es s k h) (at-first e es s k h buffer a r))
+
+  -- ---- a feature up to its finish, and next
+  module _ (es : List Event) (s : State) (k : Mem) (buffer : List ℕ) (a : Accepted) (ok : finishesIn s k es ≡ true) (r : At s (lends k buffer) a) where
+    reached-at : Reached s k (made (fresh declared (yes detect) (yes promote)) (a .steps)) (a .pairs)
+    reached-at = rw (r .holds) at (row-reached declared detect promote (r .row))
+
+    at-finish : At (finished (fedTo s k es)) (lends (finishedMem s k es) buffer) (withFinish (withEvents a es))
+    at-finish =
+        let all = at-all es s k buffer a (both (takes s (recordsLent (k .table)) (lentOf (k .pools)) es) _ ok .0) r in
+        rw (all .holds, finished-is s k _ _ es ok reached-at) at (finish-done (rw (all .holds) (done s k _ _ es ok reached-at)) (all .row))
+
+    at-next : decideNext (finished (fedTo s k es)) (recordsLent (k .table)) (lentOf (k .pools)) .number ≡ 0
+        → At (renewed (finished (fedTo s k es))) (lends (nextMem s k es) buffer) (withNext (withFinish (withEvents a es)) (pendingAt (finished (fedTo s k es) .pending .xy) (finishedMem s k es .pools .xy)))
+    at-next goes = rw (at-finish .holds, renewed-is s k _ _ es ok reached-at goes) at (next-done (rw (at-finish .holds) (goes-on s k _ _ es ok reached-at goes)) (at-finish .row))
+
+    repeats : (fs : List Simple) (f : Simple) → AllDemanded declared fs → Demanded declared f → withFinish (withEvents a es) .steps ≡ passed fs ++ featureSteps f → tableGood (k .table) ≡ true → Repeats declared f (finishedMem s k es)
+    repeats fs f ds d so-far whole = demand-three declared detect promote fs f ds d (at-finish .row) so-far (whole-same k _ (finish-lengths s k _ _ es ok reached-at) whole)
+
+-- ---- two fields
+abbrev at : ℕ → ℕ → Coord
+at x y = record { x = x; y = y; z = none; m = none; t = none; tm = none }
+
+abbrev ring : Line
+ring = at 1 2 ∷ at 3 4 ∷ at 5 6 ∷ at 1 2 ∷ []
+
+flat : (x y : ℕ) → Has noFlags (at x y)
+flat x y = record { z = refl; m = refl; t = refl; tm = refl }
+
+ring-flat : All (Has noFlags) ring
+ring-flat = (flat 1 2, (flat 3 4, (flat 5 6, (flat 1 2, tt))))
+
+abbrev pub field : Simple
+field = polygon (ring ∷ ring ∷ [])
+
+abbrev pub other : Simple
+other = polygon (ring ∷ [])
+
+field-demanded : Demanded 3 field
+field-demanded = (refl, omega arith, _, a-polygon (ring ∷ ring ∷ []) (tt, (ring-flat, (ring-flat, tt))))
+
+other-demanded : Demanded 3 other
+other-demanded = (refl, omega arith, _, a-polygon (ring ∷ []) (tt, (ring-flat, tt)))
+
+abbrev begin : State
+begin = started 3 false false
+
+abbrev room : Mem
+room = blank 1 16 2
+
+abbrev first : List Event
+first = eventsOf noFlags 0 field
+
+first-ok : finishesIn begin room first ≡ true
+unfolding eventsOf started askOf begun setType hasRoom grownAll pastAll stateAfter decideEvent decideFinish wellFormed beginE endE xyE
+first-ok = refl
+
+goes : decideNext (finished (fedTo begin room first)) (recordsLent (room .table)) (lentOf (room .pools)) .number ≡ 0
+unfolding eventsOf started askOf begun setType hasRoom grownAll pastAll stateAfter decideEvent finished decideNext beginE endE xyE
+goes = refl
+
+-- after the first field's next
+abbrev again : State
+again = renewed (finished (fedTo begin room first))
+
+abbrev over : Mem
+over = nextMem begin room first
+
+again-ok : finishesIn again over (eventsOf noFlags 0 other) ≡ true
+unfolding eventsOf started askOf begun setType hasRoom grownAll pastAll stateAfter decideEvent finished decideFinish renewed wellFormed beginE endE xyE
+again-ok = finishes-same again (eventsOf noFlags 0 other) room over (next-lengths begin room _ _ first first-ok (begins 3 false false room) goes) refl
+
+pub field-repeats : Repeats 3 field (finishedMem begin room first)
+field-repeats = repeats 3 0 0 first begin room [] nothing first-ok (at-start 3 0 0 (lends room []) (omega arith)) [] field tt field-demanded refl refl
+
+pub other-repeats : Repeats 3 other (finishedMem again over (eventsOf noFlags 0 other))
+unfolding eventsOf
+other-repeats =
+    let so-far = at-next 3 0 0 first begin room [] nothing first-ok (at-start 3 0 0 (lends room []) (omega arith)) goes in
+    repeats 3 0 0 (eventsOf noFlags 0 other) again over [] _ again-ok so-far (field ∷ []) other (field-demanded, tt) other-demanded refl (whole-same room over (next-lengths begin room _ _ first first-ok (begins 3 false false room) goes) refl)
+
+-- ---- a field in two blocks, the first with a keep-out ring
+abbrev pub blocks : Simple
+blocks = multiPolygon ((ring ∷ ring ∷ []) ∷ (ring ∷ []) ∷ [])
+
+blocks-demanded : Demanded 6 blocks
+blocks-demanded = (refl, omega arith, _, many-polygons ((ring ∷ ring ∷ []) ∷ (ring ∷ []) ∷ []) tt ((tt, (ring-flat, (ring-flat, tt))), ((tt, (ring-flat, tt)), tt)))
+
+-- a depth of 7, behind what is no event at all
+abbrev depth : Property
+depth = record { column = 0; kind = 5; bits = 7; text = [] }
+
+abbrev fresh-buffer : List ℕ
+fresh-buffer = replicate 6 0
+
+abbrev wide : Mem
+wide = blank 3 24 3
+
+abbrev declared-blocks : State
+declared-blocks = started 6 false false
+
+abbrev after-depth : State
+after-depth = propertyCall declared-blocks 0 5 7 [] fresh-buffer .state
+
+no-event : (k : Mem) → eventCall declared-blocks k [] .wrote .number ≡ 0 → ⊥
+unfolding eventCall heard readEvent
+no-event k e = let malformed-is : eventCall declared-blocks k [] .wrote .number ≡ 11 = refl in omega arith
+
+depth-taken : propertyCall declared-blocks 0 5 7 [] fresh-buffer .number ≡ 0
+unfolding propertyCall putOf refusalOf malformed textOk propertyBytes laidDown widthOf isText started
+depth-taken = refl
+
+blocks-ok : finishesIn after-depth wide (eventsOf noFlags 0 blocks) ≡ true
+unfolding eventsOf propertyCall putOf started askOf begun setType hasRoom grownAll pastAll stateAfter decideEvent decideFinish wellFormed beginE endE xyE
+blocks-ok = refl
+
+pub blocks-repeat : Repeats 6 blocks (finishedMem after-depth wide (eventsOf noFlags 0 blocks))
+blocks-repeat =
+    let begun-row = at-refused 6 0 0 (blank 0 0 0) (no-event (blank 0 0 0)) (at-start 6 0 0 (lends wide fresh-buffer) (omega arith)) in
+    repeats 6 0 0 (eventsOf noFlags 0 blocks) after-depth wide _ _ blocks-ok (at-property 6 0 0 depth depth-taken begun-row) [] blocks tt blocks-demanded refl refl
+
+-- ---- many events in one call: a Point's three, and then the begin of a Polygon, which is refused with 5
+abbrev point-events : List Event
+point-events = beginE 1 false 0 0 ∷ xyE 3 4 0 ∷ endE 1 false 0 ∷ []
+
+pub records : List ℕ
+records = bytesOf events (point-events ++ beginE 3 true 1 0 ∷ [])
+
+abbrev declared-point : List ℕ
+declared-point = wordsOf (started 1 false false)
+
+four-given : (eventsCall (started 1 false false) (blank 0 2 0) records .took .number ≡ 5) × (eventsCall (started 1 false false) (blank 0 2 0) records .took .taken ≡ 3)
+unfolding eventsCall eventsFrom started eventCall eventWith askOf begun setType decideEvent hasRoom stateAfter grownAll memAfter tableAfter heard readEvent eventOf spareZero wellFormed eventBytes events bytesOf beginE xyE endE records
+four-given = (refl, refl)
+
+three-heard : heardFrom 3 0 records ≡ point-events
+unfolding heard readEvent eventOf spareZero wellFormed eventBytes events bytesOf beginE xyE endE records
+three-heard = refl
+
+pub stops : let o = leaves declared-point (lends (blank 0 2 0) []) (many records) in let a = accepts declared-point (lends (blank 0 2 0) []) (many records) nothing in
+    (o .number ≡ 5) × (a .steps ≡ tookAll point-events) × Row 1 0 0 (o .words) (o .lends) a
+unfolding takenOf
+stops =
+    let state : stateOf declared-point ≡ started 1 false false = state-words (started 1 false false) (started-bytes 1 false false (omega arith)) in
+    (rw state (four-given .0), rw (state, four-given .1) (ap tookAll three-heard), call (many records) (start (lends (blank 0 2 0) []) (omega arith)))
