@@ -130,13 +130,12 @@ module _ (type detect promote : ℕ) where
   passes [] current d = (current, refl)
   passes (f ∷ fs) current d =
       let w : Writer = between current in
-      let rest = passes fs (then current f (d .0)) (d .1) in
-      (
+      let rest = passes fs (then current f (d .0)) (d .1) in (
         rest .0,
         made-then w (featureSteps f) (renewed ∷ passed fs)
-        ∙ ap (λ (v : Writer). made (next v) (passed fs)) (feature-made w f)
-        ∙ ap (λ (v : Writer). made v (passed fs)) (goes-on current f (d .0))
-        ∙ rest .1,
+            ∙ ap (λ (v : Writer). made (next v) (passed fs)) (feature-made w f)
+            ∙ ap (λ (v : Writer). made v (passed fs)) (goes-on current f (d .0))
+            ∙ rest .1,
       )
 
   module _ {words : List ℕ} {l : Lends} {a : Accepted} (fs : List Simple) (f : Simple) (ds : AllDemanded type fs) (d : Demanded type f) (row : Row type detect promote words l a) (so-far : a .steps ≡ passed fs ++ featureSteps f) where

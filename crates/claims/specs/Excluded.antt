@@ -1,66 +1,166 @@
 -- 01, "Excluded by demand 2": programs that a contract rules out. Each is any program of its kind, taken as what it answers and leaves; that it met the call's contract is absurd.
 use mathlib.Core.Path.{_≡_, refl, sym, ap, _∙_}
-use mathlib.Core.Bool.{false}
-use mathlib.Core.List.{List, [], _∷_}
+use mathlib.Core.Bool.{true, false}
+use mathlib.Core.List.{List, [], _∷_, _++_}
 use mathlib.Core.Option.{Option, none, some}
-use Prim.Native.Nat.{ℕ, _≤_}
+use Prim.Native.Nat.{ℕ, _≤_, _<_}
 use native.Mathlib.Omega.{arith}
 use lib.ListN.{length, take, length-take}
+use Rattle.laws.specs.Every.{both}
 use Rattle.laws.specs.Script.{Script, say}
 use Rattle.laws.specs.Cut.{recordsOf, roomOf, Said}
-use Rattle.kinds.specs.Event.{EventSized, beginE, wellFormed}
+use Rattle.kinds.specs.Event.{EventSized, beginE, xyE, endE, wellFormed}
 use Rattle.kinds.specs.declared.event.Event.{Event}
 use Rattle.kinds.specs.declared.flags.Flags.{Flags}
-use Rattle.store.specs.Lists.{Rec, Pools, recordWith}
+use Rattle.store.specs.Lists.{Rec, Pools, lentOf, recordWith}
 use Rattle.log.specs.Log.{events, hear-said}
 use Rattle.lines.specs.Lines.{orNone}
 use Rattle.reader.specs.Reading.{readS}
 use Rattle.reader.specs.Examples.{noFlags}
 use Rattle.writing.specs.declared.state.State.{State}
-use Rattle.writing.specs.State.{Mem, Outcome}
+use Rattle.writing.specs.State.{Mem}
 use Rattle.asking.specs.SetType.{setType}
-use Rattle.writing.specs.Calls.{started, eventCall, eventWith, decideEvent}
+use Rattle.writing.specs.Calls.{started, eventCall, eventWith, decideEvent, finished, finishCall, renewed, decideNext, nextCall}
 use Rattle.asking.specs.Ask.{askOf, begun}
 use Rattle.pending.specs.Room.{hasRoom}
-use Rattle.writer_model.specs.Bench.{polygon, four}
+use Rattle.writer_model.specs.Bench.{polygon, four, rec}
 use Rattle.writer_model.specs.BenchCalls.{blank, b1-called, b2-called}
-use Rattle.writer_model.specs.Example.{again, over, second, second-read}
-use Rattle.writer_model.specs.Feature.{finishedMem}
+use Rattle.writer_model.specs.Writer.{Writer, fresh}
+use Rattle.writer_model.specs.Call.{Call, eventC, finishC, nextC, called}
+use Rattle.writer_model.specs.Rows.{Reached, start}
+use Rattle.writer_model.specs.Fed.{given, takes, fedTo, fedMem, pairsOf, first-heard, takes-rest, fed-rest}
+use Rattle.writer_model.specs.Feature.{finishesIn, finishedMem, nextMem, done, finished-is, renewed-is}
+use Rattle.writer_model.specs.Example.{first, second, again, over, all-taken, goes-on, first-over, again-taken, second-read}
+use Rattle.writer_model.specs.Example as Example
+use Rattle.as_words.specs.Words.{stateOf, wordsOf}
+use Rattle.as_words.specs.WordLaws.{state-words}
+use Rattle.as_words.specs.Stays.{started-bytes}
+use Rattle.bintolage.specs.Calls.{Kept, kept, keptOf}
+use Rattle.store.specs.Records.{recordsLent}
+use Rattle.claims.specs.Linked.{call-state}
 use Rattle.claims.specs.Bench.{b1}
 use Rattle.claims.specs.Outcome.{read-once}
 
--- ---- a writer that refuses everything
-point-begins : eventCall (started 1 false false) (blank 0 0 0) (events .bytes (beginE 1 false 0 0)) .wrote .number ≡ 0
-unfolding started eventCall eventWith askOf begun setType decideEvent hasRoom wellFormed beginE
+-- a Point's begin is taken
+point : List ℕ
+point = events .bytes (beginE 1 false 0 0)
+
+point-begins : eventCall (started 1 false false) (blank 0 0 0) point .wrote .number ≡ 0
+unfolding started eventCall eventWith askOf begun setType decideEvent hasRoom wellFormed beginE point
 point-begins = rw (hear-said (beginE 1 false 0 0) small refl)
   where
     small : EventSized (beginE 1 false 0 0)
     small = record { size = omega arith; idx = omega arith; x = omega arith; y = omega arith; z = omega arith; m = omega arith; t = omega arith; tm = omega arith }
 
-pub refuses-everything : (event : State → Mem → List ℕ → Outcome) → ((s : State) (k : Mem) (bytes : List ℕ) → event s k bytes ≡ eventCall s k bytes)
-    → ((s : State) (k : Mem) (bytes : List ℕ) → event s k bytes .wrote .number ≡ 0 → ⊥) → ⊥
-refuses-everything event meets refuses = refuses _ _ _ (ap (λ (o : Outcome). o .wrote .number) (meets (started 1 false false) (blank 0 0 0) (events .bytes (beginE 1 false 0 0))) ∙ point-begins)
-
--- ---- one with a constant tree: B1 and B2 leave different roots
-abbrev rootLeft : Mem → List Event → Option Rec
-rootLeft k es = recordWith (finishedMem (started 3 false false) k es .table) (finishedMem (started 3 false false) k es .pools) 0
-
-xyIn : Option Rec → Option (List ℕ)
-xyIn none = none
-xyIn (some r) = r .xy
-
 endCount : Option Rec → ℕ
 endCount none = 0
 endCount (some r) = length (orNone (r .ends))
 
-pub constant-tree : (root : Rec) → rootLeft (blank 1 8 1) (polygon (four ∷ [])) ≡ some root → rootLeft (blank 1 16 2) (polygon (four ∷ four ∷ [])) ≡ some root → ⊥
-unfolding endCount
-constant-tree root h k = let z : _≡_ {A = ℕ} 0 2 = ap endCount (sym (b1-called .1 .0) ∙ h ∙ sym k ∙ b2-called .1 .0) in omega arith
+-- ---- a writer, as what its calls answer and leave; that it meets the contracts of those that a machine links
+pub record Program : Type 0 where
+  pub event : List ℕ → Mem → List ℕ → Kept
+  pub finish : List ℕ → Mem → Kept
+  pub next : List ℕ → Mem → Kept
 
--- ---- one honest only for its first feature: what the second leaves has the second's pair, after the one carried in
-pub first-feature-alone : (part : Rec) → (part .xy ≡ some (3 ∷ 4 ∷ 5 ∷ 6 ∷ []) → ⊥) → recordWith (finishedMem again over second .table) (finishedMem again over second .pools) 1 ≡ some part → ⊥
-unfolding xyIn
-first-feature-alone part differs h = let e = sym h ∙ second-read .1 .0 in differs (ap (λ (o : Option Rec). xyIn o) e)
+pub record Meets (p : Program) : Type 0 where
+  pub event : (words : List ℕ) (k : Mem) (bytes : List ℕ) → p .event words k bytes ≡ keptOf words (eventCall (stateOf words) k bytes)
+  pub finish : (words : List ℕ) (k : Mem) → p .finish words k ≡ keptOf words (finishCall (stateOf words) k)
+  pub next : (words : List ℕ) (k : Mem) → p .next words k ≡ keptOf words (nextCall (stateOf words) k)
+
+-- what it leaves of events, each given as its record, of a feature that is finished, and of one that next leaves behind
+abbrev pub givenTo : Program → List ℕ → Mem → List Event → Kept
+givenTo p words k [] = kept 0 words k
+givenTo p words k (e ∷ es) = let o = p .event words k (events .bytes e) in givenTo p (o .words) (o .mem) es
+
+abbrev pub finishedBy : Program → List ℕ → Mem → List Event → Kept
+finishedBy p words k es = let o = givenTo p words k es in p .finish (o .words) (o .mem)
+
+abbrev pub passedBy : Program → List ℕ → Mem → List Event → Kept
+passedBy p words k es = let o = finishedBy p words k es in p .next (o .words) (o .mem)
+
+-- the records of a tree that was left
+abbrev pub recordLeft : Kept → ℕ → Option Rec
+recordLeft o n = recordWith (o .mem .table) (o .mem .pools) n
+
+record Comes (o : Kept) (s : State) (k : Mem) : Type 0 where
+  state : stateOf (o .words) ≡ s
+  mem : o .mem ≡ k
+
+abbrev startedWords : ℕ → List ℕ
+startedWords declared = wordsOf (started declared false false)
+
+started-state : (declared : ℕ) → declared < 256 → stateOf (startedWords declared) ≡ started declared false false
+started-state declared small = state-words (started declared false false) (started-bytes declared false false small)
+
+module _ (p : Program) (meets : Meets p) where
+  -- a call of it, on words and memory that come to s and k
+  module _ (words : List ℕ) (k′ : Mem) (s : State) (k : Mem) (h : Comes (kept 0 words k′) s k) where
+    called-comes : (c : Call) (o : Kept) → o ≡ keptOf words (called (stateOf words) k′ c) → Comes o (called s k c .wrote .state) (called s k c .mem)
+    unfolding keptOf
+    called-comes c o e =
+        let now : Comes o (called (stateOf words) k′ c .wrote .state) (called (stateOf words) k′ c .mem) = record { state = ap (λ (o : Kept). stateOf (o .words)) e ∙ call-state words k′ c; mem = ap (λ (o : Kept). o .mem) e } in
+        rw (h .state, h .mem) at now
+
+  given-comes : (e : Event) (es : List Event) (words : List ℕ) (k′ : Mem) (s : State) (k : Mem) → Comes (kept 0 words k′) s k → takes s (recordsLent (k .table)) (lentOf (k .pools)) (e ∷ es) ≡ true
+      → Comes (p .event words k′ (events .bytes e)) (given s k e .wrote .state) (given s k e .mem)
+  unfolding eventCall
+  given-comes e es words k′ s k c h = rw (first-heard e es s k h) at (called-comes words k′ s k c (eventC (events .bytes e)) _ (meets .event words k′ (events .bytes e)))
+
+  all-comes : (es : List Event) (words : List ℕ) (k′ : Mem) (s : State) (k : Mem) → Comes (kept 0 words k′) s k → takes s (recordsLent (k .table)) (lentOf (k .pools)) es ≡ true → Comes (givenTo p words k′ es) (fedTo s k es) (fedMem s k es)
+  all-comes [] words k′ s k c h = c
+  all-comes (e ∷ es) words k′ s k c h =
+      let one = given-comes e es words k′ s k c h in
+      rw (fed-rest e es s k h) at (all-comes es _ _ _ _ (record { state = one .state; mem = one .mem }) (takes-rest e es s k h))
+
+  module _ (words : List ℕ) (k′ : Mem) (s : State) (k : Mem) (w : Writer) (l : List ℕ) (es : List Event) (c : Comes (kept 0 words k′) s k) (ok : finishesIn s k es ≡ true) (r : Reached s k w l) where
+    all-given : Comes (givenTo p words k′ es) (fedTo s k es) (fedMem s k es)
+    all-given = all-comes es words k′ s k c (both (takes s (recordsLent (k .table)) (lentOf (k .pools)) es) _ ok .0)
+
+    finished-done : finishedBy p words k′ es .number ≡ 0
+    unfolding keptOf
+    finished-done = ap (λ (o : Kept). o .number) (meets .finish _ _) ∙ rw (all-given .state, all-given .mem) (done s k w l es ok r)
+
+    finished-comes : Comes (finishedBy p words k′ es) (finished (fedTo s k es)) (finishedMem s k es)
+    finished-comes = rw (finished-is s k w l es ok r) at (called-comes _ _ _ _ (record { state = all-given .state; mem = all-given .mem }) finishC _ (meets .finish _ _))
+
+    passed-comes : decideNext (finished (fedTo s k es)) (recordsLent (k .table)) (lentOf (k .pools)) .number ≡ 0 → Comes (passedBy p words k′ es) (renewed (finished (fedTo s k es))) (nextMem s k es)
+    passed-comes goes =
+        let all = finished-comes in
+        rw (renewed-is s k w l es ok r goes) at (called-comes _ _ _ _ (record { state = all .state; mem = all .mem }) nextC _ (meets .next _ _))
+
+  -- ---- one that refuses everything
+  pub refuses-everything : ((words : List ℕ) (k : Mem) (bytes : List ℕ) → p .event words k bytes .number ≡ 0 → ⊥) → ⊥
+  unfolding keptOf
+  refuses-everything refuses = refuses (startedWords 1) (blank 0 0 0) point (ap (λ (o : Kept). o .number) (meets .event (startedWords 1) (blank 0 0 0) point) ∙ rw (started-state 1 (omega arith)) point-begins)
+
+  -- ---- one with a constant tree: B1 and B2 leave different roots
+  module _ (k : Mem) (es : List Event) (ok : finishesIn (started 3 false false) k es ≡ true) where
+    abbrev alone : Comes (kept 0 (startedWords 3) k) (started 3 false false) k
+    alone = record { state = started-state 3 (omega arith); mem = refl }
+
+    polygon-done : finishedBy p (startedWords 3) k es .number ≡ 0
+    polygon-done = finished-done (startedWords 3) k (started 3 false false) k (fresh 3 false false) [] es alone ok (start 3 false false k)
+
+    polygon-left : (root : Rec) → recordWith (finishedMem (started 3 false false) k es .table) (finishedMem (started 3 false false) k es .pools) 0 ≡ some root → recordLeft (finishedBy p (startedWords 3) k es) 0 ≡ some root
+    polygon-left root is = rw (finished-comes (startedWords 3) k (started 3 false false) k (fresh 3 false false) [] es alone ok (start 3 false false k) .mem) is
+
+  pub constant-tree : (root : Option Rec) → ((k : Mem) (es : List Event) → finishedBy p (startedWords 3) k es .number ≡ 0 → recordLeft (finishedBy p (startedWords 3) k es) 0 ≡ root) → ⊥
+  unfolding endCount
+  constant-tree root always =
+      let one = always (blank 1 8 1) (polygon (four ∷ [])) (polygon-done (blank 1 8 1) (polygon (four ∷ [])) (b1-called .0)) in
+      let two = always (blank 1 16 2) (polygon (four ∷ four ∷ [])) (polygon-done (blank 1 16 2) (polygon (four ∷ four ∷ [])) (b2-called .0)) in
+      let z : _≡_ {A = ℕ} 0 2 = ap endCount (sym (polygon-left (blank 1 8 1) (polygon (four ∷ [])) (b1-called .0) _ (b1-called .1 .0)) ∙ one ∙ sym two ∙ polygon-left (blank 1 16 2) (polygon (four ∷ four ∷ [])) (b2-called .0) _ (b2-called .1 .0)) in
+      omega arith
+
+  -- ---- one honest only for its first feature: no record of what it leaves of a second has the second's pairs
+  pub first-feature-alone : ((k : Mem) (one two : List Event) (n : ℕ) (r : Rec) (carried : List ℕ)
+      → let o = passedBy p (startedWords 7) k one in recordLeft (finishedBy p (o .words) (o .mem) two) n ≡ some r → r .xy ≡ some (carried ++ pairsOf two) → ⊥) → ⊥
+  unfolding beginE xyE endE
+  first-feature-alone loses =
+      let s = started 7 false false in
+      let c = passed-comes (startedWords 7) Example.blank s Example.blank (fresh 7 false false) [] first (record { state = started-state 7 (omega arith); mem = refl }) all-taken (start 7 false false Example.blank) goes-on in
+      let d = finished-comes _ _ again over _ _ second (record { state = c .state; mem = c .mem }) again-taken first-over in
+      loses Example.blank first second 1 (rec 1 (3 ∷ 4 ∷ 5 ∷ 6 ∷ []) none) (3 ∷ 4 ∷ []) (rw (d .mem) (second-read .1 .0)) refl
 
 -- ---- a reader that does nothing: B1's tree has something to say
 something-said : (s rest : Script Event) (e : Event) (L : List ℕ) → s ≡ say e rest → 1 ≤ roomOf 64 L → Said events s L 0 0 L → ⊥

@@ -1,20 +1,19 @@
 -- Rows of the calls there are: two fields one after the other, the first with a keep-out ring; a field in two blocks, behind a refused call and a property; many events in one call, which stops at a refusal.
 use mathlib.Core.Path.{_≡_, refl, sym, ap, _∙_}
-use mathlib.Core.Bool.{true, false, _&&_, cond}
+use mathlib.Core.Bool.{true, false}
 use mathlib.Core.List.{List, [], _∷_, _++_, append-nil, append-assoc}
 use mathlib.Core.Option.{none}
 use Prim.Native.Nat.{ℕ, _<_}
 use native.Mathlib.Omega.{arith}
-use lib.Dec.{eqb}
 use lib.ListN.{replicate}
-use borrow.Author.Tests.{eqb-true, eq-eqb}
+use borrow.Author.Tests.{eq-eqb}
 use Rattle.laws.specs.Every.{both}
 use Rattle.laws.specs.Cut.{bytesOf}
-use Rattle.kinds.specs.Event.{EventSized, beginE, endE, xyE, wellFormed, WellFormed}
+use Rattle.kinds.specs.Event.{beginE, endE, xyE, wellFormed, WellFormed}
 use Rattle.kinds.specs.declared.event.Event.{Event}
 use Rattle.event_layout.specs.Event.{eventBytes, eventOf, spareZero, readEvent}
 use Rattle.store.specs.Lists.{lentOf}
-use Rattle.log.specs.Log.{events, heard, hear-said}
+use Rattle.log.specs.Log.{events, heard}
 use Rattle.store.specs.Records.{recordsLent, tableGood}
 use Rattle.reader.specs.Examples.{noFlags}
 use Rattle.writing.specs.declared.state.State.{State}
@@ -37,11 +36,10 @@ use Rattle.bintolage.specs.Calls.{yes, keptOf, takenOf}
 use Rattle.writer_model.specs.Writer.{Writer, fresh}
 use Rattle.writer_model.specs.BenchCalls.{blank}
 use Rattle.writer_model.specs.Call.{eventC, finishC, nextC}
-use Rattle.writer_model.specs.Lengths.{lent-same, event-lengths}
 use Rattle.writer_model.specs.Pairs.{pairOf, pendingAt}
 use Rattle.writer_model.specs.Rows.{Reached, start as begins}
 use Rattle.writer_model.specs.Feature.{finishesIn, finishedMem, nextMem, finishes-same, whole-same, done, finished-is, finish-lengths, goes-on, renewed-is, next-lengths}
-use Rattle.writer_model.specs.Fed.{sized, sized-is, given, takes, fedTo, fedMem, pairsOf}
+use Rattle.writer_model.specs.Fed.{given, takes, fedTo, fedMem, pairsOf, first-done, first-heard, takes-rest, fed-rest}
 use Rattle.geometry.specs.Geometry.{Coord, Line, Simple, polygon, multiPolygon}
 use Rattle.geometry.specs.Events.{eventsOf}
 use Rattle.format.specs.Writable.{All, Has, a-polygon, many-polygons}
@@ -106,41 +104,26 @@ module _ (declared detect promote : ℕ) where
     properties = a .properties;
   }
 
-  at-one : (e : Event) (s : State) (k : Mem) (buffer : List ℕ) (a : Accepted) → EventSized e → wellFormed e ≡ true → given s k e .wrote .number ≡ 0 → At s (lends k buffer) a
-      → At (given s k e .wrote .state) (lends (given s k e .mem) buffer) (withEvents a (e ∷ []))
-  unfolding eventCall
-  at-one e s k buffer a fits formed done r =
-      let hears = hear-said e fits formed in
-      rw (r .holds, hears) at (event-done e (events .bytes e) hears (rw (r .holds, hears) done) (r .row))
-
   -- the first of several
-  module _ (e : Event) (es : List Event) (s : State) (k : Mem) (h : takes s (recordsLent (k .table)) (lentOf (k .pools)) (e ∷ es) ≡ true) where
+  module _ (e : Event) (es : List Event) (s : State) (k : Mem) (h : takes s (recordsLent (k .table)) (lentOf (k .pools)) (e ∷ es) ≡ true) (buffer : List ℕ) (a : Accepted) where
     abbrev one : Outcome
     one = given s k e
 
-    apart : (wellFormed e ≡ true) × (sized e ≡ true) × (one .wrote .number ≡ 0) × (takes (one .wrote .state) (recordsLent (k .table)) (lentOf (k .pools)) es ≡ true)
-    unfolding eventWith
-    apart =
-        let b = both (wellFormed e && sized e && eqb (one .wrote .number) 0) (takes (one .wrote .state) (recordsLent (k .table)) (lentOf (k .pools)) es) h in
-        let c = both (wellFormed e && sized e) (eqb (one .wrote .number) 0) (b .0) in
-        let d = both (wellFormed e) (sized e) (c .0) in
-        (d .0, d .1, eqb-true _ 0 (c .1), b .1)
+    at-first : At s (lends k buffer) a → At (one .wrote .state) (lends (one .mem) buffer) (withEvents a (e ∷ []))
+    unfolding eventCall
+    at-first r =
+        let hears = first-heard e es s k h in
+        rw (r .holds, hears) at (event-done e (events .bytes e) hears (rw (r .holds, hears) (first-done e es s k h)) (r .row))
 
-    takes-rest : takes (one .wrote .state) (recordsLent (one .mem .table)) (lentOf (one .mem .pools)) es ≡ true
-    takes-rest = let n = event-lengths s k e (apart .2) in rw (n .table, lent-same k (one .mem) n) (apart .3)
-
-    at-first : (buffer : List ℕ) (a : Accepted) → At s (lends k buffer) a → At (one .wrote .state) (lends (one .mem) buffer) (withEvents a (e ∷ []))
-    at-first buffer a r = at-one e s k buffer a (sized-is e (apart .1)) (apart .0) (apart .2) r
-
-    at-rest : (buffer : List ℕ) (a : Accepted) → At (fedTo (one .wrote .state) (one .mem) es) (lends (fedMem (one .wrote .state) (one .mem) es) buffer) (withEvents (withEvents a (e ∷ [])) es)
+    at-rest : At (fedTo (one .wrote .state) (one .mem) es) (lends (fedMem (one .wrote .state) (one .mem) es) buffer) (withEvents (withEvents a (e ∷ [])) es)
         → At (fedTo s k (e ∷ es)) (lends (fedMem s k (e ∷ es)) buffer) (withEvents a (e ∷ es))
-    unfolding eventWith
-    at-rest buffer a r = let n = event-lengths s k e (apart .2) in rw (n .table, lent-same k (one .mem) n, with-more a e es) at r
+    at-rest r = rw (fed-rest e es s k h, with-more a e es) at r
 
   at-all : (es : List Event) (s : State) (k : Mem) (buffer : List ℕ) (a : Accepted) → takes s (recordsLent (k .table)) (lentOf (k .pools)) es ≡ true → At s (lends k buffer) a
       → At (fedTo s k es) (lends (fedMem s k es) buffer) (withEvents a es)
   at-all [] s k buffer a h r = rw (← (with-none a)) r
-  at-all (e ∷ es) s k buffer a h r = at-rest e es s k h buffer a (at-all es (given s k e .wrote .state) (given s k e .mem) buffer (withEvents a (e ∷ [])) (takes-rest e es s k h) (at-first e es s k h buffer a r))
+  at-all (e ∷ es) s k buffer a h r =
+      at-rest e es s k h buffer a (at-all es (given s k e .wrote .state) (given s k e .mem) buffer (withEvents a (e ∷ [])) (takes-rest e es s k h) (at-first e es s k h buffer a r))
 
   -- ---- a feature up to its finish, and next
   module _ (es : List Event) (s : State) (k : Mem) (buffer : List ℕ) (a : Accepted) (ok : finishesIn s k es ≡ true) (r : At s (lends k buffer) a) where

@@ -23,7 +23,7 @@ use Rattle.writing.specs.State.{Mem, memOf, outcome, Outcome}
 use Rattle.writing.specs.Calls.{started, eventCall, finishCall, nextCall}
 use Rattle.runs.specs.Events.{Progress, progress, eventsCall}
 use Rattle.writer.specs.Property.{propertyCall}
-use Rattle.bintolage.specs.Calls.{Kept, kept}
+use Rattle.bintolage.specs.Calls.{Kept, kept, Taken, taken}
 
 -- ---- a log: its bytes, and the answer's number and count
 pub said-once : {A : Type 0} (F : Format A) (s : Script A) (L : List ℕ) (number number′ count count′ : ℕ) (M M′ : List ℕ)
@@ -111,8 +111,14 @@ module _ (number number′ count count′ : ℕ) (log log′ : List ℕ) where
 pub box-once : (table : List ℕ) (P : Pools) (n : ℕ) (b b′ : Boxed) → b ≡ boxedOf P (recordAt table (lentOf P) n) → b′ ≡ boxedOf P (recordAt table (lentOf P) n) → b ≡ b′
 box-once table P n b b′ h h′ = h ∙ sym h′
 
--- ---- the exported calls: event, finish and next keep the state as words; read and read_properties say what the inner calls say (`said-once`), and the others' contracts are equations
+-- ---- the exported calls: the writing ones keep the state as words; read and read_properties say what the inner calls say (`said-once`), and the others' contracts are equations
 pub kept-once : (number number′ : ℕ) (words words′ : List ℕ) (mem mem′ : Mem) (o : Kept) → kept number words mem ≡ o → kept number′ words′ mem′ ≡ o → (number ≡ number′) × (words ≡ words′) × (mem ≡ mem′)
 kept-once number number′ words words′ mem mem′ o h h′ =
     let e = h ∙ sym h′ in
     (ap (λ (k : Kept). k .number) e, ap (λ (k : Kept). k .words) e, ap (λ (k : Kept). k .mem) e)
+
+pub taken-once : (number number′ count count′ : ℕ) (words words′ : List ℕ) (mem mem′ : Mem) (o : Taken) → taken number count words mem ≡ o → taken number′ count′ words′ mem′ ≡ o
+    → (number ≡ number′) × (count ≡ count′) × (words ≡ words′) × (mem ≡ mem′)
+taken-once number number′ count count′ words words′ mem mem′ o h h′ =
+    let e = h ∙ sym h′ in
+    (ap (λ (k : Taken). k .number) e, ap (λ (k : Taken). k .taken) e, ap (λ (k : Taken). k .words) e, ap (λ (k : Taken). k .mem) e)

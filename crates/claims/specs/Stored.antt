@@ -84,12 +84,12 @@ module _ (declared detect promote : ℕ) where
         let s = stateOf words in
         let turn : s .waiting ≡ false = accepted (s .waiting) (s .properties) (p .column) (p .kind) (p .bits) (p .text) (length (l .buffer)) done .turn in
         counts (ap (λ (s : State). s .properties) (sym (put-state words p (l .buffer)))) (
-          record {
-            before = h .before;
-            after = bytesPut words p (l .buffer);
-            wrote = rw turn (one-more p (l .buffer) (h .wrote) (h .same) (rw turn at done));
-            same = refl;
-          }
+        record {
+          before = h .before;
+          after = bytesPut words p (l .buffer);
+          wrote = rw turn (one-more p (l .buffer) (h .wrote) (h .same) (rw turn at done));
+          same = refl;
+        }
         )
 
     put-stays : (p : Property) → (put words p (l .buffer) .number ≡ 0 → ⊥) → Stored (bytesPut words p (l .buffer)) (stateOf (wordsAfter words (put words p (l .buffer))) .properties) (a .properties)

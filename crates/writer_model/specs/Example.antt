@@ -90,11 +90,11 @@ over = nextMem begin blank first
 abbrev carrying : Writer
 carrying = next (finish (afterAll (fresh 7 false false) first))
 
-all-taken : finishesIn begin blank first ≡ true
+pub all-taken : finishesIn begin blank first ≡ true
 unfolding started askOf begun setType collected hasRoom grownAll pastAll stateAfter decideEvent decideFinish wellFormed beginE endE xyE
 all-taken = refl
 
-goes-on : decideNext (finished (fedTo begin blank first)) (recordsLent (blank .table)) (lentOf (blank .pools)) .number ≡ 0
+pub goes-on : decideNext (finished (fedTo begin blank first)) (recordsLent (blank .table)) (lentOf (blank .pools)) .number ≡ 0
 unfolding started askOf begun setType collected hasRoom grownAll pastAll stateAfter decideEvent finished decideNext beginE endE xyE
 goes-on = refl
 
@@ -108,7 +108,7 @@ first-over =
     let r = next-reached begin blank (fresh 7 false false) [] first all-taken (start 7 false false blank) goes-on in
     subst (Reached again over carrying) (sym (row-lists r)) r
 
-again-taken : finishesIn again over second ≡ true
+pub again-taken : finishesIn again over second ≡ true
 unfolding started askOf begun setType collected hasRoom grownAll pastAll stateAfter decideEvent finished decideFinish renewed wellFormed beginE endE xyE
 again-taken = finishes-same again second blank over lengths refl
 

@@ -6,11 +6,11 @@ use Prim.Native.Nat.{ℕ}
 use lib.Dec.{ltb, eqb}
 use borrow.Author.Tests.{ltb-true, eqb-true}
 use Rattle.laws.specs.Every.{both}
-use Rattle.kinds.specs.Event.{wellFormed, EventSized}
+use Rattle.kinds.specs.Event.{wellFormed, EventSized, WellFormed}
 use Rattle.kinds.specs.declared.event.Event.{Event}
 use Rattle.kinds.specs.declared.geometry.Lent.{Lent}
 use Rattle.store.specs.Lists.{lentOf}
-use Rattle.log.specs.Log.{events, hear-said}
+use Rattle.log.specs.Log.{events, heard, hear-said}
 use Rattle.store.specs.Records.{recordsLent}
 use Rattle.writing.specs.declared.state.State.{State}
 use Rattle.writing.specs.declared.state.Wrote.{Wrote}
@@ -57,10 +57,10 @@ sized-is e h =
 abbrev pub given : State → Mem → Event → Outcome
 given s k e = eventWith s (askOf (s .typing) e) e k
 
-pub said-reached : {s : State} {k : Mem} {w : Writer} {l : List ℕ} (e : Event) → EventSized e → wellFormed e ≡ true → given s k e .wrote .number ≡ 0 → Reached s k w l
+said-reached : {s : State} {k : Mem} {w : Writer} {l : List ℕ} (e : Event) → heard (events .bytes e) ≡ WellFormed e → given s k e .wrote .number ≡ 0 → Reached s k w l
     → Reached (given s k e .wrote .state) (given s k e .mem) (after w e) (l ++ pairOf e)
 unfolding eventCall
-said-reached {s} {k} {w} {l} e fits formed q r = rw (hear-said e fits formed) at (accepted {s = s} {k = k} {w = w} {l = l} (eventC (events .bytes e)) (rw (hear-said e fits formed) q) r)
+said-reached {s} {k} {w} {l} e hears q r = rw hears at (accepted {s = s} {k = k} {w = w} {l = l} (eventC (events .bytes e)) (rw hears q) r)
 
 -- ---- a row of events, each lent what the last one left; the tests see the numbers of records and words that are lent
 abbrev pub decided : State → ℕ → Lent → Event → Wrote
@@ -89,19 +89,44 @@ pub record Fed (s : State) (k : Mem) (w : Writer) (l : List ℕ) (es : List Even
   pub reached : Reached (fedTo s k es) (fedMem s k es) (afterAll w es) (l ++ pairsOf es)
   pub lengths : SameLengths k (fedMem s k es)
 
+-- what the test of a row says of its first event, and of those behind it
+module _ (e : Event) (es : List Event) (s : State) (k : Mem) (h : takes s (recordsLent (k .table)) (lentOf (k .pools)) (e ∷ es) ≡ true) where
+  abbrev one : Outcome
+  one = given s k e
+
+  apart : (wellFormed e ≡ true) × (sized e ≡ true) × (one .wrote .number ≡ 0) × (takes (one .wrote .state) (recordsLent (k .table)) (lentOf (k .pools)) es ≡ true)
+  unfolding eventWith
+  apart =
+      let b = both (wellFormed e && sized e && eqb (one .wrote .number) 0) (takes (one .wrote .state) (recordsLent (k .table)) (lentOf (k .pools)) es) h in
+      let c = both (wellFormed e && sized e) (eqb (one .wrote .number) 0) (b .0) in
+      let d = both (wellFormed e) (sized e) (c .0) in
+      (d .0, d .1, eqb-true _ 0 (c .1), b .1)
+
+  pub first-done : one .wrote .number ≡ 0
+  first-done = apart .2
+
+  pub first-heard : heard (events .bytes e) ≡ WellFormed e
+  first-heard = hear-said e (sized-is e (apart .1)) (apart .0)
+
+  pub first-lengths : SameLengths k (one .mem)
+  first-lengths = event-lengths s k e first-done
+
+  pub takes-rest : takes (one .wrote .state) (recordsLent (one .mem .table)) (lentOf (one .mem .pools)) es ≡ true
+  takes-rest = rw (first-lengths .table, lent-same k (one .mem) first-lengths) (apart .3)
+
+  -- the state that the row comes to
+  pub fed-rest : fedTo (one .wrote .state) (one .mem) es ≡ fedTo s k (e ∷ es)
+  unfolding eventWith
+  fed-rest = rw (first-lengths .table, lent-same k (one .mem) first-lengths)
+
 pub fed : (es : List Event) (s : State) (k : Mem) (w : Writer) (l : List ℕ) → takes s (recordsLent (k .table)) (lentOf (k .pools)) es ≡ true → Reached s k w l → Fed s k w l es
-unfolding afterAll eventWith
+unfolding afterAll
 fed [] s k w l h r = record { reached = rw (append-nil l) r; lengths = record { table = refl; pools = λ n. refl } }
 fed (e ∷ es) s k w l h r =
+    let n = first-lengths e es s k h in
     let o : Outcome = given s k e in
-    let a = both (wellFormed e && sized e && eqb (o .wrote .number) 0) (takes (o .wrote .state) (recordsLent (k .table)) (lentOf (k .pools)) es) h in
-    let b = both (wellFormed e && sized e) (eqb (o .wrote .number) 0) (a .0) in
-    let c = both (wellFormed e) (sized e) (b .0) in
-    let q : o .wrote .number ≡ 0 = eqb-true _ 0 (b .1) in
-    let n = event-lengths s k e q in
-    let t : takes (o .wrote .state) (recordsLent (o .mem .table)) (lentOf (o .mem .pools)) es ≡ true = rw (n .table, lent-same k (o .mem) n) (a .1) in
-    let f = fed es (o .wrote .state) (o .mem) (after w e) (l ++ pairOf e) t (said-reached e (sized-is e (c .1)) (c .0) q r) in
+    let f = fed es (o .wrote .state) (o .mem) (after w e) (l ++ pairOf e) (takes-rest e es s k h) (said-reached e (first-heard e es s k h) (first-done e es s k h) r) in
     record {
-      reached = rw (n .table, lent-same k (o .mem) n, append-assoc) at (f .reached);
+      reached = rw (fed-rest e es s k h, append-assoc) at (f .reached);
       lengths = record { table = f .lengths .table ∙ n .table; pools = λ m. f .lengths .pools m ∙ n .pools m };
     }
