@@ -1,4 +1,4 @@
--- The events that tell of a geometry: 01's begins, ends and pairs, with true sizes and indices from zero.
+-- SPEC 11.7: the events that tell of a geometry, begins, ends and pairs, with true sizes and indices from zero.
 use mathlib.Core.Bool.{Bool, true, false, cond}
 use mathlib.Core.List.{List, [], _∷_}
 use mathlib.Core.Option.{Option, none}

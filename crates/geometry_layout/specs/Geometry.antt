@@ -1,4 +1,4 @@
--- 01, "Geometry, 64 bytes": 0 type; 1 present bits (xy 1, ends 2, z 4, m 8, t 16, tm 32, parts 64); 2, 3 spare; from 4, seven pairs of u32 (start, count) in that order; 60 to 63 spare.
+-- SPEC 3.5, 3.6: a geometry record. Type, present bits and two spare bytes; start and count, four bytes each, of xy, ends, z, m, t, tm and parts; four spare bytes.
 use mathlib.Core.Bool.{Bool, cond, true, false, _&&_, _||_}
 use mathlib.Core.List.{List, [], _∷_, _++_}
 use Prim.Native.Nat.{ℕ, _+_}

@@ -1,4 +1,4 @@
--- 01, "Event, 64 bytes": the kinds of event, the fields that each uses, and the events that keep the rules.
+-- SPEC 2.3, 2.4, 3.3: the kinds of event, the fields that each uses, and the events that keep the rules.
 use mathlib.Core.Path.{_≡_}
 use mathlib.Core.Bool.{Bool, false, not, cond, _&&_, _||_}
 use Prim.Native.Nat.{ℕ, _+_, _-_, _/_, _%_, _<_}
@@ -100,7 +100,7 @@ abbrev pub BareOf : Parsed → Bare → Type 0
 BareOf p (BarePair x y) = toldApart p ≡ Pair x y
 BareOf p BareOther = Unit
 
--- the paper's number for each case: done, or 11
+-- the number for each case: done, or 11 (SPEC 3.3)
 abbrev pub parsedNumber : Parsed → ℕ
 parsedNumber (WellFormed e) = 0
 parsedNumber Malformed = 11

@@ -1,4 +1,4 @@
--- Writing a property: its bytes, what is refused, and what a write answers and leaves, in the words and the order of 01.
+-- Writing a property: its bytes, what is refused, and what a write answers and leaves: SPEC 9.1 to 9.5, in its order.
 use mathlib.Core.Bool.{Bool, cond, not}
 use mathlib.Core.List.{List, _++_}
 use Prim.Native.Nat.{ℕ, _+_, _^_, _≤_, _<_, min}

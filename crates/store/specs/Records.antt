@@ -1,4 +1,4 @@
--- 01, "Records" and "Usable room": geometry records by number, and which are bad.
+-- SPEC 3.8, 3.9: geometry records by number, and which are bad.
 use mathlib.Core.Bool.{Bool, true, cond, not, _&&_}
 use mathlib.Core.List.{List}
 use Prim.Native.Nat.{ℕ, _+_, _*_, _/_, _%_}
