@@ -34,7 +34,7 @@ module _ (F : Flags) where
   abbrev pub coordOf : Tells Coord
   coordOf c i k = seenAs c i ∷ k
 
-  -- a line or polygon is tagged when outermost or in a collection, untagged inside another type; a surface's polygon is tagged
+  -- inside another type a line is untagged, and so is a polygon or a triangle; a surface's polygon is tagged
   abbrev pub lineOf : Tells Line
   lineOf = group 2 false coordOf
 

@@ -24,7 +24,7 @@ presentOf g = shown (g .xy) 1 + shown (g .ends) 2 + shown (g .z) 4 + shown (g .m
 abbrev pub headBytes : ℕ → ℕ → List ℕ
 headBytes type present = type ∷ present ∷ 0 ∷ 0 ∷ []
 
--- an absent list has start and count 0
+-- of an absent list both are 0 (SPEC 3.6)
 abbrev pub spanBytes : Span → List ℕ
 spanBytes s = le 4 (startOf s) ++ le 4 (countOf s)
 
@@ -61,7 +61,7 @@ geometryOf l =
 abbrev pub absentZero : List ℕ → ℕ → ℕ → Bool
 absentZero l bit at = present l bit || (eqb (wordAt 4 l at) 0 && eqb (wordAt 4 l (at + 4)) 0)
 
--- no spare byte nor present bit 128 is set, and each absent list has start and count 0
+-- SPEC 3.9, as far as a record's own bytes show it: spare bytes are zero, present bits below 128, an absent list's start and count 0
 unfoldable pub soundGeometry : List ℕ → Bool
 soundGeometry l =
     eqb (getD l 2 0) 0 && eqb (getD l 3 0) 0 && eqb (wordAt 4 l 60) 0 && ltb (getD l 1 0) 128

@@ -6,7 +6,7 @@ use lib.Dec.{leb, ltb, eqb}
 use Rattle.utf8.specs.Utf8.{isUtf8}
 use Rattle.property_value.specs.Column.{widthOf, isText}
 
--- a type above 14, a Bool above 1, or bits beyond a number's width
+-- SPEC 9.3: no such type, a Bool that is neither 0 nor 1, or a number that its width does not hold
 unfoldable pub malformed : ℕ → ℕ → Bool
 malformed kind bits = ltb 14 kind || (eqb kind 2 && ltb 1 bits) || (leb kind 10 && leb (256 ^ widthOf kind) bits)
 
