@@ -1,4 +1,4 @@
-//! Features as the paper's 64-byte events, and property values.
+//! Features as event records (SPEC 3.2), and property values.
 use geozero::GeomProcessor;
 use original::events::Log;
 

@@ -1,4 +1,4 @@
-"""A client of the oracle's protocol, and the paper's records for it."""
+"""A client of the oracle's protocol, and SPEC's records for it."""
 import collections, struct, subprocess
 
 UNKNOWN = 255

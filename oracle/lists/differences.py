@@ -1,7 +1,7 @@
 """The smallest inputs of docs/DIFFERENCES.md, by entry, with the answers that the entry tells of.
 
 The makers put these inputs into the lists, with the oracle's answers; `coverage.py` looks for them there, and holds the answers against
-those given here. What an entry tells beyond its inputs (limits, turns, refusals of the paper's own) is in `coverage.py`.
+those given here. What an entry tells beyond its inputs (limits, turns, refusals of SPEC's own) is in `coverage.py`.
 
 Calls and events are written as words: a begin is its type's number, an end has a minus before it, `t` is tagged, `@1` is idx 1. A pair
 is `1,2`, with a z value `1,2,5`. Among calls `done` is finish and next, and `!5` says that the call is refused with 5.

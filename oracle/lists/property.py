@@ -4,7 +4,7 @@
     oracle/lists/property.py ORACLE > LIST
 
 ORACLE is the oracle's program, the crate's own Rust. Every list is read by it (request P), and every property that is written, or
-refused for its value or its text, is written by it (request W). From this script's own reading of the paper come only what the oracle
+refused for its value or its text, is written by it (request W). From this script's own reading of SPEC come only what the oracle
 does not have: 9 for a full log, the usable 65,536 bytes, and on writing 15, 16 and 12. The seed is fixed: the same list comes out every time.
 
 The numbers of a case, by their index; a word takes two.

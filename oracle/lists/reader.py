@@ -4,7 +4,7 @@
     oracle/lists/reader.py ORACLE > LIST
 
 ORACLE is the oracle's program, the crate's own Rust. It reads every tree (request R). `Reading` below is this script's own reading of
-the paper. The script stops where the two differ. 9 for a log without room comes from `Reading` alone. The seed is fixed: the same list comes out every time.
+SPEC 7. The script stops where the two differ. 9 for a log without room comes from `Reading` alone. The seed is fixed: the same list comes out every time.
 
 A tree is one case, with several readings of it, to logs of several lengths: all expect the first of the same events. The numbers of a
 case, by their index:
@@ -41,7 +41,7 @@ oracle = Oracle(sys.argv[1])
 pick = random.Random(3)
 
 
-# The paper's reading.
+# The reading, as SPEC 7 has it.
 
 class Refused(Exception):
     pass

@@ -4,7 +4,7 @@
     oracle/lists/store.py ORACLE > LIST
 
 ORACLE is the oracle's program, the crate's own Rust. Its client's builders lay out the events and the trees (`ev`, `store`). Each
-expected number, list and edge is this script's own reading of the paper's Event, Geometry and Box paragraphs. The oracle
+expected number, list and edge is this script's own reading of SPEC 3 and 8. The oracle
 is asked too where it has an answer, and this script stops where the two differ: whether an event of 64 bytes is malformed, and the box
 that a writer keeps over the same pairs. It has none for refusals 9 and 10. The seed is fixed: the same list comes out every time.
 

@@ -5,10 +5,10 @@
 
 ORACLE is the oracle's program, the crate's own Rust. A row is a start and then events, properties, finishes and nexts, each on memory
 lent as long as the row says at that call. What each call answers and leaves behind is given by `Writer`, this script's own reading of
-the paper's Writing paragraphs. Every row is then written by the oracle too (request W; it is not given what the paper alone refuses,
+SPEC 6. Every row is then written by the oracle too (request W; it is not given what SPEC alone refuses,
 with 12, 15 or 16, or with 11 for its length), and this script stops where the two differ: in a number, in the state after a call, in a
 finished tree, record by record and word by word, in a feature's property bytes, or in the lists still pending at the row's end. From
-the paper alone come 12, 15, 16, where the pending lists stand, and the words that stay as they were. Each row is then given again, with
+SPEC alone come 12, 15, 16, where the pending lists stand, and the words that stay as they were. Each row is then given again, with
 its events many in a call, up to the first that is refused and then on from the one behind it, and here and there with a tail that is
 no whole record: the same states must come of it. The seeds are fixed: the same list comes out every time. How many rows of each sort
 there are, and how often each number is answered, is written to standard error.
@@ -46,7 +46,7 @@ pick = random.Random(3)
 added = random.Random(4)
 
 
-# The writer, as the paper has it.
+# The writer, as SPEC 6 has it.
 
 def is_malformed(event):
     if len(event) != 64 or event[0] not in KINDS:
@@ -617,7 +617,7 @@ def room_rows():
 
 
 def bench_rows():
-    """B1 to B9 of the paper."""
+    """B1 to B9 of SPEC 12.1."""
     ring = [begin(2, 4), *[pair() for _ in range(4)], end(2)]
     line = lambda n, tagged=0: [begin(2, n, tagged=tagged), *[pair() for _ in range(n)], end(2, tagged=tagged)]
     polygon = [begin(3, 1, tagged=1), *ring, end(3, tagged=1)]

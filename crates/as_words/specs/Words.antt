@@ -1,4 +1,4 @@
--- A writer's state as words: 0 the typing and marks, 1 the parts, 2 the property bytes, 3 spare, then start and count of each pending list.
+-- SPEC 6.2, 6.3: a writer's state as words, 0 the typing and marks, 1 the parts, 2 the property bytes, 3 spare, then start and count of each pending list.
 use mathlib.Core.Bool.{Bool, cond}
 use mathlib.Core.List.{List, [], _∷_}
 use Prim.Native.Nat.{ℕ, _+_, _*_, _/_, _%_}

@@ -1,4 +1,4 @@
--- What an event asks for: a typing, words for some of the pools, perhaps a finished part.
+-- SPEC 6.7 to 6.13: what an event asks for, a typing, words for some of the pools, perhaps a finished part.
 use mathlib.Core.Path.{_≡_, refl}
 use mathlib.Core.Bool.{Bool, true, false, cond, not, _&&_, _||_}
 use Prim.Native.Nat.{ℕ, _<_}

@@ -1,4 +1,4 @@
--- The Rust's set_type, for every declared byte, detect, promote, mode and type. Mode 0 is Normal, 1 GeometryCollection, 2 ForceMulti.
+-- SPEC 6.8, 6.9, the Rust's set_type: for every declared byte, detect, promote, mode and type. Mode 0 is Normal, 1 GeometryCollection, 2 ForceMulti.
 use mathlib.Core.Bool.{Bool, cond, not, _&&_, _||_}
 use Prim.Native.Nat.{ℕ, _+_}
 use lib.Dec.{eqb}
@@ -9,7 +9,7 @@ use Rattle.asking.specs.declared.set_type.Typed.the-variants.{Set, Mixed
 abbrev pub typing : ℕ → Bool → Bool → ℕ → ℕ → Typing
 typing declared detect promote current mode = record { declared = declared; detect = detect; promote = promote; current = current; mode = mode }
 
--- the paper's number for each case: done, or 5
+-- the number for each case: done, or 5 (SPEC 6.8)
 abbrev pub typedNumber : Typed → ℕ
 typedNumber (Set h) = 0
 typedNumber Mixed = 5

@@ -1,4 +1,4 @@
--- A box is four doubles: least x, least y, greatest x, greatest y.
+-- SPEC 8.1 to 8.3: a box's four edges, and what moves them.
 use mathlib.Core.Bool.{Bool, cond, true, false}
 use mathlib.Core.List.{List, [], _∷_}
 use Prim.Native.Nat.{ℕ}

@@ -71,7 +71,7 @@ impl Box {
     }
 }
 
-// An odd last word is not taken.
+// A last word without a partner is left out.
 pub fn box_of_words(words: &[u64]) -> Box
     ensures { λ r. ⌜ r ≡ boxFrom beginning (now (words .entry)) ⌝ }
 {

@@ -1,4 +1,4 @@
--- read_coordinate and read_coords: what a record's pairs say.
+-- SPEC 7.6 to 7.9, read_coordinate and read_coords: what a record's pairs say.
 use mathlib.Core.Bool.{Bool, true, false, cond, _&&_}
 use mathlib.Core.List.{List, [], _∷_}
 use mathlib.Core.Option.{Option, none, some}

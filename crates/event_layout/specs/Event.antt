@@ -1,4 +1,4 @@
--- 01, "Event, 64 bytes": 0 kind; 1 tagged; 2 present bits; 3 spare; 4 size u32; 8 idx u32; 12 to 15 spare; then eight bytes each at 16 x, 24 y, 32 z, 40 m, 48 t, 56 tm.
+-- SPEC 3.2, 3.3: an event record. Kind, tagged, present bits and a spare byte; size and idx, four bytes each; four spare bytes; x, y, z, m, t, tm, eight bytes each.
 use mathlib.Core.Bool.{Bool, cond, _&&_}
 use mathlib.Core.List.{List, _++_}
 use Prim.Native.Nat.{ℕ}

@@ -1,4 +1,4 @@
--- 01, "Value, 16 bytes": 0 column u16; 2 type; 3 spare; 4 the value's byte length u32; 8 the value's bytes, padded with zeros, or the u64 start of its bytes.
+-- SPEC 3.11: a value record. Column, two bytes; type and a spare byte; how many bytes the value has, four bytes; its word, eight bytes.
 use mathlib.Core.List.{List, [], _∷_, _++_}
 use Prim.Native.Nat.{ℕ}
 use Rattle.laws.specs.Bytes.{le}

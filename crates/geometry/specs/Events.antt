@@ -1,4 +1,4 @@
--- The events that tell of a geometry: 01's begins, ends and pairs, with true sizes and indices from zero.
+-- SPEC 11.7: the events that tell of a geometry, begins, ends and pairs, with true sizes and indices from zero.
 use mathlib.Core.Bool.{Bool, true, false, cond}
 use mathlib.Core.List.{List, [], _∷_}
 use mathlib.Core.Option.{Option, none}
@@ -34,7 +34,7 @@ module _ (F : Flags) where
   abbrev pub coordOf : Tells Coord
   coordOf c i k = seenAs c i ∷ k
 
-  -- a line or polygon is tagged when outermost or in a collection, untagged inside another type; a surface's polygon is tagged
+  -- inside another type a line is untagged, and so is a polygon or a triangle; a surface's polygon is tagged
   abbrev pub lineOf : Tells Line
   lineOf = group 2 false coordOf
 

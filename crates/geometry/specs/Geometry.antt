@@ -1,4 +1,4 @@
--- Geometries as data, with the type numbers of header.fbs.
+-- SPEC 11.6: geometries as data, with the type numbers of header.fbs.
 use mathlib.Core.List.{List, [], _∷_}
 use mathlib.Core.Option.{Option}
 use Prim.Native.Nat.{ℕ, zero, suc, max}

@@ -1,4 +1,4 @@
--- 01, "Geometry, 64 bytes": 0 type; 1 present bits (xy 1, ends 2, z 4, m 8, t 16, tm 32, parts 64); 2, 3 spare; from 4, seven pairs of u32 (start, count) in that order; 60 to 63 spare.
+-- SPEC 3.5, 3.6: a geometry record. Type, present bits and two spare bytes; start and count, four bytes each, of xy, ends, z, m, t, tm and parts; four spare bytes.
 use mathlib.Core.Bool.{Bool, cond, true, false, _&&_, _||_}
 use mathlib.Core.List.{List, [], _∷_, _++_}
 use Prim.Native.Nat.{ℕ, _+_}
@@ -24,7 +24,7 @@ presentOf g = shown (g .xy) 1 + shown (g .ends) 2 + shown (g .z) 4 + shown (g .m
 abbrev pub headBytes : ℕ → ℕ → List ℕ
 headBytes type present = type ∷ present ∷ 0 ∷ 0 ∷ []
 
--- an absent list has start and count 0
+-- of an absent list both are 0 (SPEC 3.6)
 abbrev pub spanBytes : Span → List ℕ
 spanBytes s = le 4 (startOf s) ++ le 4 (countOf s)
 
@@ -61,7 +61,7 @@ geometryOf l =
 abbrev pub absentZero : List ℕ → ℕ → ℕ → Bool
 absentZero l bit at = present l bit || (eqb (wordAt 4 l at) 0 && eqb (wordAt 4 l (at + 4)) 0)
 
--- no spare byte nor present bit 128 is set, and each absent list has start and count 0
+-- SPEC 3.9, as far as a record's own bytes show it: spare bytes are zero, present bits below 128, an absent list's start and count 0
 unfoldable pub soundGeometry : List ℕ → Bool
 soundGeometry l =
     eqb (getD l 2 0) 0 && eqb (getD l 3 0) 0 && eqb (wordAt 4 l 60) 0 && ltb (getD l 1 0) 128

@@ -1,4 +1,4 @@
--- 01, "Event, 64 bytes": the kinds of event, the fields that each uses, and the events that keep the rules.
+-- SPEC 2.3, 2.4, 3.3: the kinds of event, the fields that each uses, and the events that keep the rules.
 use mathlib.Core.Path.{_≡_}
 use mathlib.Core.Bool.{Bool, false, not, cond, _&&_, _||_}
 use Prim.Native.Nat.{ℕ, _+_, _-_, _/_, _%_, _<_}
@@ -10,11 +10,11 @@ use Rattle.kinds.specs.declared.event.Heard.the-variants.{Pair, Coordina
 use Rattle.kinds.specs.declared.event.Bare.{Bare}
 use Rattle.kinds.specs.declared.event.Bare.the-variants.{Pair as BarePair, Other as BareOther}
 
--- Types 0, 13 and 14 have no events.
+-- the types that have events (SPEC 2.2)
 abbrev pub hasEvents : ℕ → Bool
 hasEvents type = (leb 1 type && leb type 12) || (leb 15 type && leb type 17)
 
--- Begin kinds carry the type number; end kinds carry it plus 32 (below 32 the difference is 0, which has no events); xy is 64, coordinate 65.
+-- SPEC 2.3: a begin has its type's number, an end 32 more (below 32 the difference is 0, which has no events), a pair is 64, a coordinate 65
 abbrev pub isBegin : ℕ → Bool
 isBegin kind = hasEvents kind
 
@@ -27,7 +27,7 @@ isXy kind = eqb kind 64
 abbrev pub isCoordinate : ℕ → Bool
 isCoordinate kind = eqb kind 65
 
--- tagged is used by LineString, Polygon and Triangle, begin and end
+-- SPEC 2.4: the begins and the ends of LineString, Polygon and Triangle use tagged
 abbrev pub isTaggedType : ℕ → Bool
 isTaggedType type = eqb type 2 || eqb type 3 || eqb type 17
 
@@ -56,7 +56,7 @@ usesOf kind = record { idx = usesIdx kind; tagged = usesTagged kind; size = uses
 abbrev pub bitSet : ℕ → ℕ → Bool
 bitSet bits bit = eqb (bits / bit % 2) 1
 
--- A field not used, or an absent value, is zero. (A number that does not use idx is no kind.)
+-- SPEC 3.3: what a kind does not use is zero, and so is a value that is not present. (A number that does not use idx is no kind.)
 abbrev pub keepsUses : Event → Uses → Bool
 keepsUses e uses =
     uses .idx
@@ -100,7 +100,7 @@ abbrev pub BareOf : Parsed → Bare → Type 0
 BareOf p (BarePair x y) = toldApart p ≡ Pair x y
 BareOf p BareOther = Unit
 
--- the paper's number for each case: done, or 11
+-- the number for each case: done, or 11 (SPEC 3.3)
 abbrev pub parsedNumber : Parsed → ℕ
 parsedNumber (WellFormed e) = 0
 parsedNumber Malformed = 11

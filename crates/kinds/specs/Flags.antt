@@ -1,4 +1,4 @@
--- Which of z, m, t and tm a reading hands out.
+-- SPEC 2.5, 10.8: which of z, m, t and tm a reading hands out.
 use Prim.Native.Nat.{ℕ}
 use Rattle.kinds.specs.declared.flags.Flags.{Flags}
 use Rattle.kinds.specs.Event.{bitSet}

@@ -29,7 +29,7 @@ pub record GeometrySized (g : Geometry) : Type 0 where
   pub tm : SpanSized (g .tm)
   pub parts : SpanSized (g .parts)
 
--- the paper's number for each case: done, or 10
+-- the number for each case: done, or 10 (SPEC 3.9)
 abbrev pub judgedNumber : Judged → ℕ
 judgedNumber (Good g) = 0
 judgedNumber Bad = 10

@@ -8,7 +8,7 @@ use Rattle.kinds.specs.declared.geometry.Lent.{Lent}
 pub data Lane : Type 0 where
   xyL endsL zL mL tL tmL : Lane
 
--- 131,072 xy words, 65,536 words in every other pool
+-- how many words are usable (SPEC 4.2)
 abbrev pub usable : Lane → ℕ
 usable xyL = 131072
 usable endsL = 65536

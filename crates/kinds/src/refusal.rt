@@ -3,7 +3,7 @@ pub const DONE: u8 = 0;
 
 pub const XY_ABSENT: u8 = 1;
 
-// Parts absent where needed; a property column not below the column count.
+// No list of parts where one is needed; a property whose column is not in the column list.
 pub const PARTS_ABSENT: u8 = 2;
 
 pub const COLUMN_UNKNOWN: u8 = 2;
@@ -19,7 +19,7 @@ pub const NOT_UTF8: u8 = 6;
 // A coordinate, or a z, m, t or tm value, past its list.
 pub const PAST_LIST: u8 = 7;
 
-// An end of 2^31 or more, or below the one before.
+// An end that is 2^31 or larger, or less than the end before it.
 pub const BAD_END: u8 = 8;
 
 pub const LOG_FULL: u8 = 9;
@@ -37,7 +37,7 @@ pub const TOO_DEEP: u8 = 13;
 
 pub const VALUE_CUT: u8 = 14;
 
-// A call given while a finished feature waits, or next with none waiting.
+// Another call than next while a finished feature waits, or next while none does.
 pub const NOT_ITS_TURN: u8 = 15;
 
 pub const COLUMN_TOO_LARGE: u8 = 16;

@@ -10,5 +10,5 @@ pub const LOG_RECORDS: usize = 1048576;
 
 pub const PROPERTY_BYTES: usize = 65536;
 
-// A collection inside a collection is followed to this level, the root being 1.
+// The last level at which a part is read; the root is at level 1 (SPEC 7.4).
 pub const LEVELS: u8 = 16;

@@ -1,4 +1,4 @@
--- The walks of geometry_reader.rs over a record's own lists: what each says.
+-- SPEC 7.10 to 7.17: the walks of geometry_reader.rs over a record's own lists, and what each says.
 use mathlib.Core.Bool.{Bool, false, cond, _||_}
 use mathlib.Core.List.{List, [], _∷_}
 use mathlib.Core.Option.{Option, none, some}
@@ -18,14 +18,14 @@ abbrev pub orNone : Option (List ℕ) → List ℕ
 orNone none = []
 orNone (some l) = l
 
--- with 0 or 1 ends the whole list is one stretch
+-- with at most one end the whole list is one stretch (SPEC 7.10)
 abbrev pub single : List ℕ → Bool
 single ends = leb (length ends) 1
 
 abbrev pub stretches : List ℕ → ℕ
 stretches ends = cond (single ends) 1 (length ends)
 
--- an end of 2^31 or more, or below the one before
+-- an end that is 2^31 or larger, or less than the end before it (SPEC 7.11)
 abbrev pub badEnd : ℕ → ℕ → Bool
 badEnd before end = ltb end before || leb 2147483648 end
 

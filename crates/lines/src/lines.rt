@@ -146,7 +146,7 @@ pub fn read_line(
     read_window(log, count, xy, z, m, t, tm, seen, w, f)
 }
 
-// The lines of a Polygon or a MultiLineString: with 0 or 1 ends the whole list is one.
+// The lines of a Polygon or a MultiLineString: with at most one end the whole list is one.
 fn read_rings(
     log: &mut [u8],
     count: usize,

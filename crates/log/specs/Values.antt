@@ -1,4 +1,4 @@
--- A log of values: 01, "Value, 16 bytes".
+-- A log of values: SPEC 3.11, 9.10.
 use mathlib.Core.Path.{_≡_, refl}
 use lib.Dec.{lit<}
 use lib.ListN.{length}

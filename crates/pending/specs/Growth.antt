@@ -24,7 +24,7 @@ atOnce tmL = 1
 abbrev pub more : Added → Lane → ℕ
 more a n = cond (addsTo a n) (atOnce n) 0
 
--- ---- a finished part: xy always, an ends list of 0 or 1 and empty others left out
+-- ---- a finished part (SPEC 6.14): its xy list always, its ends where there are two or more, other lists where they have a word
 abbrev pub grown : Words → ℕ → Words
 grown p n = words (p .start) (p .count + n)
 
@@ -58,7 +58,7 @@ listed p = Stretch (p .start) (p .count)
 abbrev pub shown : Words → ℕ → Span
 shown p most = cond (leb (p .count) most) Absent (listed p)
 
--- the pending words begin after it; a dropped end's room is used again
+-- the pending words begin after it; the word of a dropped end is used again (SPEC 6.15)
 abbrev pub past : Words → ℕ → Words
 past p most = words (p .start + cond (leb (p .count) most) 0 (p .count)) 0
 
@@ -68,7 +68,7 @@ pastAll p = pendingOf (λ n. past (wordsIn p n) (omitted n))
 unfoldable pub partOf : ℕ → Pending → Geometry
 partOf kind p = record { kind = kind; xy = listed (p .xy); ends = shown (p .ends) 1; z = shown (p .z) 0; m = shown (p .m) 0; t = shown (p .t) 0; tm = shown (p .tm) 0; parts = Absent }
 
--- a root with type and parts alone
+-- a root over parts: its type, and where they stand (SPEC 6.21)
 unfoldable pub rootOver : ℕ → ℕ → Geometry
 rootOver kind parts = record { kind = kind; xy = Absent; ends = Absent; z = Absent; m = Absent; t = Absent; tm = Absent; parts = Stretch 1 parts }
 

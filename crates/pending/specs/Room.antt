@@ -1,4 +1,4 @@
--- Room: the lesser of lent and usable, for all that is pending, for more words, and for a number of records; and what a test of it tells.
+-- Room, lent and usable (SPEC 4.3, 6.19): for all that is pending, for more words, and for a number of records; and what a test of it tells.
 use mathlib.Core.Path.{_≡_, refl, sym}
 use mathlib.Core.Bool.{Bool, true, false, cond, _&&_}
 use Prim.Native.Nat.{ℕ, _+_, _≤_}

@@ -1,4 +1,4 @@
--- 01's B12 to B14, and more property bytes, read to a log of one record and four bytes that stay as they are.
+-- B12 to B14 of SPEC 12.3, and more property bytes, read to a log of one record and four bytes that stay as they are.
 use mathlib.Core.Path.{_≡_, refl}
 use mathlib.Core.Bool.{true, false}
 use mathlib.Core.List.{List, [], _∷_, _++_}

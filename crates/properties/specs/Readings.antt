@@ -111,7 +111,7 @@ module _ (bytes : List ℕ) (hasColumns : Bool) (columns : List ℕ) (last : ℕ
             named = r .named;
           }
 
--- "or 65,536 or more for none": bytes name no such column
+-- from 65,536 on no column is named (SPEC 9.11): two bytes name no such column
 
 ColumnIs : ℕ → Item → Type 0
 ColumnIs column End = Unit

@@ -1,1 +1,1 @@
-// Theorems only: property bytes written and read back, and the paper's examples of them.
+// Theorems only: property bytes written and read back, and the examples of SPEC 12.3.

@@ -1,4 +1,4 @@
--- Property bytes read: 01, "Property bytes" and "Value, 16 bytes". What a reading has to say is a script of values, and `run values` of it says what the log then holds.
+-- Property bytes read: SPEC 9.6 to 9.11. What a reading has to say is a script of values, and `run values` of it says what the log then holds.
 use mathlib.Core.Bool.{Bool, false, cond, not, _&&_, _||_}
 use mathlib.Core.List.{List}
 use Prim.Native.Nat.{ℕ, zero, suc, _+_, _-_}
@@ -30,20 +30,20 @@ bytesAt bytes column kind start len =
     (cond (not (textOk kind (take len (drop start bytes)))) (Refused 6)
     (Found (valueOf column kind len start) (start + len)))
 
--- "types 11 to 14 have a u32 length first"
+-- a length in four bytes comes first (SPEC 9.9)
 unfoldable pub textAt : List ℕ → ℕ → ℕ → ℕ → Item
 textAt bytes column kind at =
     cond (ltb (length bytes - at) 4) (Refused 14)
     (bytesAt bytes column kind (at + 4) (wordAt 4 bytes at))
 
--- "a column type above 14 takes no bytes and gives no value"
+-- a type above 14 takes nothing and gives nothing (SPEC 9.7)
 unfoldable pub valueAt : List ℕ → ℕ → ℕ → ℕ → Item
 valueAt bytes column kind at =
     cond (ltb 14 kind) (Skipped at)
     (cond (ltb kind 11) (numberAt bytes column kind at)
     (textAt bytes column kind at))
 
--- "reading goes on while at least two bytes remain"; then the refusals in order: 2, 14, 6
+-- done where fewer than two bytes are left (SPEC 9.6); then the refusals in order: 2, 14, 6
 unfoldable pub itemAt : List ℕ → List ℕ → ℕ → Item
 itemAt bytes columns at =
     cond (ltb (length bytes - at) 2) End
@@ -52,7 +52,7 @@ itemAt bytes columns at =
 
 -- ---- a reading
 
--- "the caller names a column to stop after"
+-- the reading ends after a value of the named column (SPEC 9.11)
 unfoldable pub onItem : ℕ → (ℕ → Script Value) → Item → Script Value
 onItem last later End = stop 0
 onItem last later (Refused number) = stop number
@@ -68,7 +68,7 @@ propertiesUpTo (suc most) bytes columns last at = onItem last (propertiesUpTo mo
 unfoldable pub propertiesFrom : List ℕ → List ℕ → ℕ → ℕ → Script Value
 propertiesFrom bytes columns last at = propertiesUpTo (length bytes - at) bytes columns last at
 
--- "without a column list nothing is read"; 65,536 property bytes are usable
+-- with no column list, nothing (SPEC 9.6); 65,536 property bytes are usable (SPEC 4.2)
 unfoldable pub reading : List ℕ → Bool → List ℕ → ℕ → Script Value
 reading bytes hasColumns columns last = cond hasColumns (propertiesFrom (take 65536 bytes) columns last 0) (stop 0)
 
@@ -77,6 +77,6 @@ unfoldable pub says : ℕ → Script Value → Bool
 says column (stop number) = false
 says column (say value s) = eqb (value .column) column || says column s
 
--- "the answer also says whether it stopped": all was said, and the named column's value with it
+-- whether it stopped (SPEC 9.11): all was said, and the named column's value with it
 unfoldable pub stopped : ℕ → Script Value → ℕ → Bool
 stopped last s number = eqb number 0 && says last s

@@ -19,7 +19,7 @@ pub struct PropertiesRead {
     pub stopped: bool,
 }
 
-// Reads the usable property bytes into a log. Without a column list nothing is read.
+// Reads the usable property bytes into a log. Where there is no column list, nothing.
 pub fn read_properties(
     bytes: &[u8],
     has_columns: bool,

@@ -1,4 +1,4 @@
--- Column types, by the numbers of header.fbs: Byte 0, UByte 1, Bool 2, Short 3, UShort 4, Int 5, UInt 6, Long 7, ULong 8, Float 9, Double 10, String 11, Json 12, DateTime 13, Binary 14.
+-- SPEC 2.6: column types, by the numbers of header.fbs.
 use mathlib.Core.Bool.{Bool, cond, _&&_, _||_}
 use Prim.Native.Nat.{ℕ}
 use lib.Dec.{leb, eqb}

@@ -5,7 +5,7 @@ use utf8::is_utf8;
 ghost use mathlib.Core.Path.{_≡_};
 ghost use Rattle.property_value.specs.Value.{malformed, textOk, wordOf};
 
-// Eight bytes hold any bits, and a text's bits are not looked at.
+// Eight bytes hold any bits, and those of a text are passed over.
 pub fn is_malformed(kind: u8, bits: u64) -> bool
     ensures { λ r. ⌜ r ≡ malformed kind bits ⌝ }
 {

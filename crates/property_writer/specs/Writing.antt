@@ -1,4 +1,4 @@
--- Writing a property: its bytes, what is refused, and what a write answers and leaves, in the words and the order of 01.
+-- Writing a property: its bytes, what is refused, and what a write answers and leaves: SPEC 9.1 to 9.5, in its order.
 use mathlib.Core.Bool.{Bool, cond, not}
 use mathlib.Core.List.{List, _++_}
 use Prim.Native.Nat.{ℕ, _+_, _^_, _≤_, _<_, min}
@@ -14,11 +14,11 @@ use Rattle.property_writer.specs.declared.PropertyPut.{PropertyPut}
 unfoldable pub textBytes : List ℕ → List ℕ
 textBytes text = le 4 (length text) ++ text
 
--- types 11 to 14 have a length first; a number's slice and a text's bits are not looked at
+-- types 11 to 14 have their length first; the text of a number and the bits of a text are passed over (SPEC 9.2)
 unfoldable pub laidDown : ℕ → ℕ → List ℕ → List ℕ
 laidDown kind bits text = cond (leb 11 kind) (textBytes text) (le (widthOf kind) bits)
 
--- a written value is laid down after its two index bytes
+-- the column's two bytes, and then the value (SPEC 9.1)
 unfoldable pub propertyBytes : ℕ → ℕ → ℕ → List ℕ → List ℕ
 propertyBytes column kind bits text = le 2 column ++ laidDown kind bits text
 

@@ -1,4 +1,4 @@
--- 01, "Benchmarks for both sides": B10, B11, and the levels of "Run", on the definition.
+-- SPEC 12.2, 12.4: B10, B11, and the levels, on the definition.
 use mathlib.Core.Path.{_≡_, refl}
 use mathlib.Core.Bool.{false}
 use mathlib.Core.List.{[], _∷_}

@@ -1,4 +1,4 @@
--- geometry_reader.rs: what reading a tree says. The walks over a record's own lists are those of `lines`.
+-- SPEC 7.3 to 7.5 and 7.18 to 7.20, beside geometry_reader.rs: what reading a tree says. The walks over a record's own lists are those of `lines`.
 use mathlib.Core.Bool.{true, false, cond, not, _&&_, _||_}
 use mathlib.Core.Option.{Option, none, some}
 use Prim.Native.Nat.{ℕ, zero, suc, _+_}
@@ -67,7 +67,7 @@ module _ (F : Flags) where
   geometryS zero get r type idx = kindS (λ n i. stop 13) zero get r type idx
   geometryS (suc left) get r type idx = kindS (λ n i. found (get n) (λ p. geometryS left get p (p .kind) i)) (suc left) get r type idx
 
-  -- read_geometry: the root is record 0, at level 1 of 16; declared type 0 means the root's own
+  -- read_geometry: the root is record 0, at level 1 of 16; under declared type 0 its own type counts (SPEC 7.3)
   unfoldable pub rootS : (ℕ → Option Rec) → Option Rec → ℕ → Script Event
   rootS get none declared = stop 10
   rootS get (some r) declared = geometryS 15 get r (cond (eqb declared 0) (r .kind) declared) 0

@@ -1,4 +1,4 @@
--- 01, "Box": a geometry's box, by record number, is taken over its own xy list.
+-- SPEC 8.3: the box of a record, by its number, over its own xy list.
 use mathlib.Core.List.{List}
 use mathlib.Core.Option.{Option, none, some}
 use Prim.Native.Nat.{ℕ}
@@ -19,6 +19,6 @@ abbrev pub boxOfList : Option (List ℕ) → Box
 boxOfList none = beginning
 boxOfList (some words) = boxFrom beginning words
 
--- Bad record or table: 10, with the beginning box.
+-- a bad record or table gives 10, with the box as it began (SPEC 8.4)
 abbrev pub boxedOf : Pools → Judged → Boxed
 boxedOf P found = record { number = judgedNumber found; bbox = boxOfList (ownXy P found) }

@@ -1,4 +1,4 @@
--- Many events in one call: records one behind the other, taken up to the first that is refused.
+-- SPEC 6.25, many events in one call: records one behind the other, taken up to the first that is refused.
 use mathlib.Core.Path.{_≡_, sym, ap, _∙_}
 use mathlib.Core.Bool.{cond}
 use mathlib.Core.List.{List}

@@ -1,4 +1,4 @@
--- 01, "Records" and "Usable room": geometry records by number, and which are bad.
+-- SPEC 3.8, 3.9: geometry records by number, and which are bad.
 use mathlib.Core.Bool.{Bool, true, cond, not, _&&_}
 use mathlib.Core.List.{List}
 use Prim.Native.Nat.{ℕ, _+_, _*_, _/_, _%_}
@@ -19,24 +19,24 @@ use Rattle.kinds.specs.declared.geometry.Judged.the-variants.{Good, Bad}
 abbrev pub recordsLent : List ℕ → ℕ
 recordsLent table = length table / 64
 
--- A geometry table is bad if its length is no whole number of records or it has none.
+-- a table that is read has whole records, and at least one (SPEC 3.8)
 abbrev pub tableGood : List ℕ → Bool
 tableGood table = eqb (length table % 64) 0 && not (eqb (recordsLent table) 0)
 
--- A record is bad if its number is past the table or 4,095,
+-- SPEC 3.9: a good record is in the table, and usable,
 unfoldable pub hasRecord : List ℕ → ℕ → Bool
 hasRecord table n = tableGood table && ltb n (recordsLent table) && ltb n 4096
 
--- a spare byte or present bit 128 is set, an absent list has a start or count (the layout says so of a record's own bytes),
+-- its own bytes are sound, which is the layout's matter,
 unfoldable pub recordIn : List ℕ → ℕ → Judged
 recordIn table n = readGeometry (block 64 table n)
 
--- a list passes its pool's lent or usable end,
+-- its lists lie within their pools, lent and usable,
 abbrev pub inPool : Span → ℕ → ℕ → Bool
 inPool Absent lent most = true
 inPool (Stretch start count) lent most = leb (start + count) lent && leb (start + count) most
 
--- or parts start at or below the record or pass the table's.
+-- and its parts stand above it, within the table, lent and usable
 abbrev pub inTable : Span → ℕ → ℕ → Bool
 inTable Absent n lent = true
 inTable (Stretch start count) n lent = ltb n start && leb (start + count) lent && leb (start + count) 4096

@@ -54,7 +54,7 @@ fn said_to(log: &mut [u8], case: &[u8]) -> u8 {
     say(log, e, case)
 }
 
-// The event of a record, as the paper lays it out. It is not heard by the store, which may have no need of all of it.
+// The event of a record, as SPEC 3.2 lays it out. It is not heard by the store, which may have no need of all of it.
 fn event_of(record: &[u8]) -> Event {
     let head = number(record, 0);
     Event {

@@ -1,4 +1,4 @@
--- UTF-8 by the grammar of RFC 3629, section 4.
+-- SPEC 9.12: UTF-8 by the grammar of RFC 3629, section 4.
 use mathlib.Core.Path.{_≡_}
 use mathlib.Core.Bool.{Bool, true, false, cond, _&&_}
 use mathlib.Core.List.{List, [], _∷_, _++_, List·Memᴰ}

@@ -1,4 +1,4 @@
--- Which walk a record takes: the type rules of geometry_reader.rs, decided before the record is read.
+-- SPEC 7.5, 7.20, which walk a record takes: the type rules of geometry_reader.rs, decided before the record is read.
 use mathlib.Core.Bool.{true, false, cond, not, _&&_, _||_}
 use Prim.Native.Nat.{ℕ, _<_}
 use lib.Dec.{leb, eqb}

@@ -1,4 +1,4 @@
--- A written property: the state counts its bytes; a refused one changes nothing.
+-- SPEC 6.26, a written property: the state counts its bytes; a refused one changes nothing.
 use mathlib.Core.List.{List}
 use Prim.Native.Nat.{ℕ}
 use Rattle.property_writer.specs.declared.PropertyPut.{PropertyPut}

@@ -1,4 +1,4 @@
--- The writer's calls on lent memory: the number, the next state, and what every pool and the table hold afterwards.
+-- SPEC 6.4 to 6.24, the writer's calls on lent memory: the number, the next state, and what every pool and the table hold afterwards.
 use mathlib.Core.Bool.{Bool, true, false, cond, not, _&&_}
 use mathlib.Core.List.{List, [], _∷_, _++_}
 use Prim.Native.Nat.{ℕ, _+_, _/_}
@@ -87,7 +87,7 @@ eventOf s k (WellFormed e) = eventWith s (askOf (s .typing) e) e k
 unfoldable pub eventCall : State → Mem → List ℕ → Outcome
 eventCall s k bytes = eventOf s k (heard bytes)
 
--- ---- finish: 15, 12. The pending lists are the root if there are no parts; typing, and what is pending beside parts, stay
+-- ---- finish: 15, 12. Where there are no parts the root takes what is pending; typing, and what is pending beside parts, stay
 unfoldable pub finished : State → State
 finished s = withWaiting (withPending s (cond (eqb (s .parts) 0) (pastAll (s .pending)) (s .pending))) true
 

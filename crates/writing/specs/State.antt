@@ -1,4 +1,4 @@
--- 01, "Writing": a writer's state by lane, the lent memory, and what the state uses of it.
+-- SPEC 6.1, 4.5: a writer's state by lane, the lent memory, and what the state uses of it.
 use mathlib.Core.Bool.{Bool, false, cond, not, _||_}
 use mathlib.Core.List.{List}
 use Prim.Native.Nat.{ℕ, _+_}

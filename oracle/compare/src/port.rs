@@ -64,7 +64,7 @@ impl Memory {
         Tree { table: &self.table, xy: &self.xy, ends: &self.ends, z, m, t, tm }
     }
 
-    /// A word of a pool, by the pool's number in the paper's order.
+    /// A word of a pool, by the pool's number in SPEC's order.
     pub fn word(&self, pool: usize, at: usize) -> u64 {
         match pool {
             0 => self.xy[at],

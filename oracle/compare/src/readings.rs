@@ -1,5 +1,5 @@
 //! Trees and property bytes read by both sides, into logs with room enough, with just too little, and with some between; and boxes.
-//! `original::reading` says what there is the Rust's and what the paper's.
+//! `original::reading` says what there is the Rust's and what SPEC's.
 use crate::input::{Properties, Tree};
 use crate::port::{self, Memory};
 use crate::tally::{Asked, Tally};

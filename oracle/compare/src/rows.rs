@@ -1,7 +1,7 @@
 //! Rows of calls to the two writers.
 //!
 //! The Rust's: whether types mix (5), the state after a call, every word and property byte laid down, and every finished tree.
-//! The paper's, by the small model here: 11, 15, 16, 6 and 12, where a part's lists stand before the tree is finished (the finished
+//! SPEC's, by the small model here: 11, 15, 16, 6 and 12, where a part's lists stand before the tree is finished (the finished
 //! tree is then compared with the Rust's), where the pending lists begin, and that all else stays as it was.
 use crate::input::{Call, Row, What};
 use crate::port::{self, Lengths, Memory, Words, PROPERTIES, TABLE};
@@ -324,7 +324,7 @@ impl<'r> Session<'r> {
         DONE
     }
 
-    /// Overwrites what the state does not use; the paper lets a caller do so between calls.
+    /// Overwrites what the state does not use; SPEC 4.6 lets a caller do so between calls.
     fn scramble(&mut self) {
         let used = self.used();
         for at in 64 * used[TABLE]..self.row.held[TABLE] {

@@ -50,7 +50,7 @@ impl Tally {
         self.types_read.insert(kind);
     }
 
-    /// The paper's refusals, types and changes of mode that no input came to.
+    /// SPEC's refusals, types and changes of mode that no input came to.
     pub fn missing(&self) -> Vec<String> {
         let mut missing = vec![];
         let answered = |number| self.numbers.keys().any(|(_, given)| *given == number);

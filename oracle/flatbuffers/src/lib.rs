@@ -1,7 +1,7 @@
 //! Hand-written stand-in for crate `flatbuffers`, after the public FlatBuffers format, as far as flatgeobuf's feature_generated.rs,
 //! feature_writer.rs and properties_reader.rs need it, with strings for the header. The names are the crate's.
 //!
-//! `Vector::get` asserts its index, as the crate does: that assertion is the paper's refusal 7.
+//! `Vector::get` asserts its index, as the crate does: that assertion is refusal 7 (SPEC 7.9).
 #![allow(clippy::missing_safety_doc, clippy::len_without_is_empty)]
 
 mod builder;

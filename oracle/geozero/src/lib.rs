@@ -1,5 +1,5 @@
 //! Hand-written stand-in for crate `geozero`, as far as flatgeobuf's sources name it. Begin and end events do nothing by default,
-//! and `multi_dim` is "any flag set": the scope paper says both.
+//! and `multi_dim` is true where any flag is set (SPEC 6.12, 7.6).
 pub mod error {
     #[derive(Debug)]
     pub enum GeozeroError {

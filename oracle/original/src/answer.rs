@@ -1,4 +1,4 @@
-//! The crate's answers as the paper's numbers.
+//! The crate's answers as the numbers of SPEC 5.1.
 use geozero::error::GeozeroError;
 use std::cell::RefCell;
 use std::panic::{catch_unwind, set_hook, AssertUnwindSafe};
@@ -15,7 +15,7 @@ pub const TOO_DEEP: u8 = 13;
 pub const VALUE_CUT: u8 = 14;
 pub const NOT_ITS_TURN: u8 = 15;
 pub const COLUMN_TOO_LARGE: u8 = 16;
-/// No number of the paper: an error or a panic that it does not know.
+/// No number of SPEC 5.1: an error or a panic that it does not know.
 pub const UNKNOWN: u8 = 255;
 
 /// The number of an error that the crate gives, by its words where one kind of error has several.

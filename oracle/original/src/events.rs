@@ -1,4 +1,4 @@
-//! The paper's 64-byte events: given to a processor, and written by one.
+//! Event records (SPEC 3.2): given to a processor, and written by one.
 use geozero::error::{GeozeroError, Result};
 use geozero::{CoordDimensions, GeomProcessor};
 
@@ -13,7 +13,7 @@ pub fn u64_at(bytes: &[u8], at: usize) -> u64 {
 const XY: u8 = 64;
 const COORDINATE: u8 = 65;
 
-/// Refusal 11, from the paper alone: there is no record in the Rust to be malformed.
+/// Refusal 11, from SPEC 3.3 alone: there is no record in the Rust to be malformed.
 pub fn is_malformed(event: &[u8]) -> bool {
     if event.len() != 64 {
         return true;
@@ -35,7 +35,7 @@ pub fn is_malformed(event: &[u8]) -> bool {
         || (0..4).any(|i| present & 1 << i == 0 && value_set(32 + 8 * i))
 }
 
-/// A begin's size only reserves room in the crate (the paper leaves that out); it is cut, since a huge one ends the process.
+/// A begin's size only reserves room in the crate (SPEC 1.2 leaves that out); it is cut, since a huge one ends the process.
 const MOST_RESERVED: usize = 1 << 10;
 
 /// Gives a well-formed event to a processor.
@@ -90,7 +90,7 @@ pub fn give<P: GeomProcessor>(to: &mut P, event: &[u8]) -> Result<()> {
     }
 }
 
-/// A processor that writes the paper's events, as many as it has room for.
+/// A processor that writes event records (SPEC 3.2), as many as it has room for.
 pub struct Log {
     pub bytes: Vec<u8>,
     room: usize,
@@ -186,7 +186,7 @@ impl GeomProcessor for Log {
         self.bound(33, false, 0, idx)
     }
     fn empty_point(&mut self, _idx: usize) -> Result<()> {
-        Err(GeozeroError::Dataset("the paper has no such event".into()))
+        Err(GeozeroError::Dataset("SPEC has no such event".into()))
     }
     tagged!(linestring_begin linestring_end 2, polygon_begin polygon_end 3, triangle_begin triangle_end 17);
     plain!(

@@ -2,7 +2,7 @@
 //! on.
 //!
 //! The crate's text is taken in byte for byte (see build.rs); `header_generated` stands in for its module of that name, and the
-//! names below for its root. The other modules are ours: they give the crate the scope paper's records and take its answers back as
+//! names below for its root. The other modules are ours: they give the crate the records of SPEC 3 and take its answers back as
 //! records.
 pub mod answer;
 pub mod events;

@@ -10,7 +10,7 @@ use geozero::{ColumnValue, FeatureProperties, PropertyProcessor};
 /// Bytes of a value, by its column type; types 11 to 14 have a length of their own.
 pub const WIDTHS: [u32; 11] = [1, 1, 1, 2, 2, 4, 4, 8, 8, 4, 8];
 
-/// A value as the crate takes it. 11 and 6 are the paper's: the crate's types hold no such value.
+/// A value as the crate takes it. 11 and 6 are SPEC 9.4's: the crate's types hold no such value.
 pub fn value(kind: u8, bits: u64, text: &[u8]) -> std::result::Result<ColumnValue<'_>, u8> {
     let too_wide = WIDTHS.get(usize::from(kind)).is_some_and(|width| *width < 8 && bits >> (8 * width) != 0);
     if kind > 14 || too_wide || (kind == 2 && bits > 1) {
@@ -36,7 +36,7 @@ pub fn value(kind: u8, bits: u64, text: &[u8]) -> std::result::Result<ColumnValu
     })
 }
 
-/// A processor that writes the paper's 16-byte values, and stops after a named column.
+/// A processor that writes value records (SPEC 3.11), and stops after a named column.
 pub struct Values {
     pub records: Vec<u8>,
     first_byte: *const u8,

@@ -1,7 +1,7 @@
-//! A tree read by the crate, with the paper's numbers.
+//! A tree read by the crate, with the numbers of SPEC 5.1.
 //!
 //! The crate's: every event, every number from 1 to 4, and the place of every refusal. A panic on an index is 7, on a subtraction
-//! 8. The paper's: which record is bad (10) or too deep (13) is judged while the tree is built; where the reading comes to it is
+//! 8. SPEC's: which record is bad (10) or too deep (13) is judged while the tree is built; where the reading comes to it is
 //! the crate's. An end of 2^31 or more (8) is judged there too. The full log (9) is the unbounded reading's events, cut.
 use crate::answer::{caught, number, BAD_END, BAD_RECORD, DONE, LOG_FULL, PAST_LIST, UNKNOWN};
 use crate::events::{u32_at, Log};
@@ -19,7 +19,7 @@ pub struct Reading {
 }
 
 pub fn read(store: &Store, declared: u8, flags: u8) -> Reading {
-    // The crate may speak before it looks at the root; the paper judges first.
+    // The crate may speak before it looks at the root; here it is judged first (SPEC 7.3).
     if store.is_bad(0) {
         return Reading { number: BAD_RECORD, events: vec![], words: String::new() };
     }

@@ -1,4 +1,4 @@
-//! The paper's geometry records and pools, and FlatBuffers trees made from them and turned into them.
+//! Geometry records (SPEC 3.5) and pools, and FlatBuffers trees made from them and turned into them.
 use crate::answer::{BAD_RECORD, TOO_DEEP};
 use crate::events::u32_at;
 use crate::feature_generated::{size_prefixed_root_as_feature_unchecked, Feature, FeatureArgs, Geometry, GeometryArgs};
@@ -13,7 +13,7 @@ pub const MOST_LEVELS: usize = 16;
 pub const ENDS: usize = 1;
 const PARTS: usize = 6;
 
-/// A table and the six pools in the paper's order: xy, ends, z, m, t, tm. Words of `ends` are kept as u64 too.
+/// A table and the six pools in SPEC's order: xy, ends, z, m, t, tm. Words of `ends` are kept as u64 too.
 #[derive(Clone, Debug, Default, PartialEq, Eq)]
 pub struct Store {
     pub table: Vec<u8>,
@@ -27,7 +27,7 @@ struct Record {
 }
 
 impl Store {
-    /// Refusal 10, from the paper alone: there is no record in the Rust to be bad.
+    /// Refusal 10, from SPEC 3.9 alone: there is no record in the Rust to be bad.
     fn record(&self, n: usize) -> Option<Record> {
         let records = self.table.len() / 64;
         if !self.table.len().is_multiple_of(64) || n >= records.min(MOST_RECORDS) {
@@ -59,7 +59,7 @@ impl Store {
         Some(record.lists[0].clone().map_or(&[], |list| &self.pools[0][list]))
     }
 
-    /// The tree below record 0 as the bytes of a Feature. What the paper refuses with 10 or 13 becomes a shut table.
+    /// The tree below record 0 as the bytes of a Feature. What SPEC 7.4 refuses with 10 or 13 becomes a shut table.
     pub fn to_feature(&self) -> Vec<u8> {
         let mut builder = Builder { store: self, to: FlatBufferBuilder::new(), built: HashMap::new() };
         let geometry = Some(builder.geometry(0, 1));
@@ -68,7 +68,7 @@ impl Store {
         builder.to.finished_data().to_vec()
     }
 
-    /// A geometry's records, breadth first, lists one after the other: for the writer's trees, as the paper lays them.
+    /// A geometry's records, breadth first, lists one after the other: for the writer's trees, as SPEC 6.16 lays them.
     pub fn from_geometry(root: Geometry) -> Store {
         let mut store = Store::default();
         let mut found = vec![root];
@@ -175,7 +175,7 @@ pub fn number_of_shut(words: &str, feature: &[u8]) -> Option<u8> {
     })
 }
 
-/// An end of 2^31 or more, which the crate cuts and the paper refuses with 8, is put so far past the one before that the crate says
+/// An end of 2^31 or more, which the crate cuts and SPEC 7.11 refuses with 8, is put so far past the one before that the crate says
 /// a line of this size, and then finds no pair or no list.
 pub const MARKED_SIZE: u32 = 0x3456_789A;
 

@@ -1,4 +1,4 @@
-//! The crate's writer, driven by the paper's events and properties.
+//! The crate's writer, driven by events and properties (SPEC 3.2, 9.2).
 use crate::answer::{caught, number, DONE, UNKNOWN};
 use crate::events::give;
 use crate::feature_generated::size_prefixed_root_as_feature;
@@ -29,7 +29,7 @@ impl Writer {
         answered(caught(|| self.0.property(column as usize, "c", value)))
     }
 
-    /// The crate's `finish_to_feature`, which is the paper's finish and next in one.
+    /// The crate's `finish_to_feature`, which is finish and next in one (SPEC 6.20, 6.23).
     pub fn finish(&mut self) -> Feature {
         let bytes = peek::finish(&mut self.0);
         let feature = size_prefixed_root_as_feature(&bytes).expect("the writer's bytes are a feature");

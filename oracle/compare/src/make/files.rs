@@ -1,4 +1,4 @@
-//! FlatGeobuf files that GDAL made: each feature's tables turned into the paper's records, read under the file's type and under its
+//! FlatGeobuf files that GDAL made: each feature's tables turned into geometry records, read under the file's type and under its
 //! own with every set of flags, its property bytes read, and its events written again by both sides.
 use crate::input::{Call, Input, Properties, Row, Tree, What};
 use original::events::u32_at;

@@ -1,4 +1,4 @@
-//! Inputs at the paper's limits: pairs, parts, ends, property bytes, levels, records and the log.
+//! Inputs at the limits of SPEC 12.4: pairs, parts, ends, property bytes, levels, records and the log.
 use super::records::{begin, coordinate, end, laid, xy, Node};
 use crate::input::{once, Call, Input, Properties, Row, Tree, What};
 use original::tree::{put_list, Store};

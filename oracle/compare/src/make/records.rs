@@ -1,4 +1,4 @@
-//! The paper's event and geometry records, made.
+//! Event and geometry records (SPEC 3.2, 3.5), made.
 use original::tree::{put_list, Store};
 
 pub const TYPES: [u8; 15] = [1, 2, 3, 4, 5, 6, 7, 8, 9, 10, 11, 12, 15, 16, 17];

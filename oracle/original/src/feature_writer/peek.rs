@@ -1,7 +1,7 @@
 //! The writer's private fields, looked at.
 use super::{FeatureWriter, GeomState};
 
-/// The six lists that belong to no part yet, in the paper's order, as bit patterns.
+/// The six lists that belong to no part yet, in the order of SPEC 6.2, as bit patterns.
 pub struct Pending<'w> {
     pub xy: &'w [f64],
     pub ends: &'w [u32],
