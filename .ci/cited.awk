@@ -79,12 +79,12 @@ function look_up_path(path) {
 }
 
 function look_up_function(word) {
-    counts["functions"]++
     sub(/\(\)$/, "", word)
     if (word ~ /::/) {
         look_up_member(word)
         return
     }
+    counts["functions"]++
     if (crate != "" && ((crate, word) in functions))
         return
     if (crate == "" && (word in function_names || word in words))
@@ -94,6 +94,7 @@ function look_up_function(word) {
 
 # Type::name
 function look_up_member(word,    type, name) {
+    counts["names"]++
     type = word
     sub(/::.*/, "", type)
     name = word
@@ -134,10 +135,11 @@ function look_up_name(word) {
         fault("no " quoted(word) " in crate " quoted(crate))
 }
 
+# A word with an underscore, behind a crate: an edit, unless the crate has such a function, constant or module.
 function look_up_edit(word) {
     if ((crate, word) in edits)
         name_edit(word)
-    else if (word in crates || (crate, word) in of_crate || (crate, word) in member_names)
+    else if ((crate, word) in of_crate || (crate, word) in member_names)
         counts["names"]++
     else
         fault("no edit " quoted(word) " in crate " quoted(crate))
@@ -157,7 +159,21 @@ function look_up_maker(word,    script) {
         fault("no function " quoted(word) " in oracle/lists/" script ".py")
 }
 
+# B3 is the theorem b3.
+function look_up_benchmark(name) {
+    counts["names"]++
+    if (!(("claims", "Bench", name) in names))
+        fault("no " quoted(name) " in " quoted("crates/claims/specs/Bench.antt"))
+}
+
+function look_up_program(word) {
+    if (!(word in programs))
+        fault("the crate " quoted(word) " is no program")
+}
+
 function is_path(word) { return word ~ /^[A-Za-z0-9_.-]*\/[A-Za-z0-9_.\/-]*$/ || word ~ /^[A-Za-z0-9_-]+\.(antt|rt|rs|md|txt|h|c|py|fbs|sha256|toml|edit)$/ }
+function is_rooted(word) { return word ~ /^(crates|docs|oracle|include|rust|jobs|bench|examples|\.ci)\// }
+function is_compound(word) { return word ~ /[a-z]-[a-z0-9]|[a-z][A-Z]/ }
 function is_word(word) { return word ~ /^[A-Za-z_][A-Za-z0-9_-]*$/ }
 
 # ---- what stands in backticks
@@ -172,9 +188,9 @@ function look_up_quoted(text,    count, each, i) {
     if (text ~ / /) {
         count = split(text, each, /[^A-Za-z0-9_.\/-]+/)
         for (i = 1; i <= count; i++)
-            if (each[i] ~ /^(crates|docs|oracle|include|rust|jobs|bench|examples|\.ci)\//)
+            if (is_rooted(each[i]))
                 look_up_path(each[i])
-            else if (is_word(each[i]) && each[i] ~ /[A-Za-z]_[A-Za-z]|[a-z][A-Z]|[a-z]-[a-z]/)
+            else if (is_word(each[i]) && (each[i] ~ /[A-Za-z]_[A-Za-z]/ || is_compound(each[i])))
                 look_up_loosely(each[i])
         return
     }
@@ -182,9 +198,7 @@ function look_up_quoted(text,    count, each, i) {
         look_up_function(text)
     else if (is_path(text))
         look_up_path(text)
-    else if (text ~ /^[A-Za-z_][A-Za-z0-9_]*::[A-Za-z_][A-Za-z0-9_]*$/)
-        look_up_loosely(text)
-    else if (is_word(text))
+    else if (is_word(text) || text ~ /^[A-Za-z_][A-Za-z0-9_]*::[A-Za-z_][A-Za-z0-9_]*$/)
         look_up_loosely(text)
 }
 function look_up_loosely(word,    last) {
@@ -195,49 +209,53 @@ function look_up_loosely(word,    last) {
         fault("nothing is called " quoted(word))
 }
 
+# ---- a word as it stands: `alone` in its piece, or `behind` a crate and perhaps `last` in its piece
+function look_up_word(word, alone, behind, last, in_brackets, strict) {
+    if (word ~ /^[0-9,.\/^+-]*$/)
+        return
+    if (word ~ /^B[0-9]+$/)
+        look_up_benchmark("b" substr(word, 2))
+    else if (is_path(word) && (is_rooted(word) || word ~ /\.[a-z0-9]+$/))
+        look_up_path(word)
+    else if (word ~ /^[A-Za-z_][A-Za-z0-9_:]*\(\)$/)
+        look_up_function(word)
+    else if (word ~ /::/)
+        look_up_member(word)
+    else if (word ~ /^[A-Z][A-Za-z0-9]*\.[A-Za-z]/)
+        look_up_in_file(word)
+    else if (strict && list != "" && in_brackets && (word ~ /_/ || alone && is_word(word)))
+        look_up_maker(word)
+    else if (word ~ /^[A-Za-z0-9]+(_[A-Za-z0-9]+)+$/) {
+        if (strict && crate != "" && !(word in crates))
+            look_up_edit(word)
+        else
+            look_up_loosely(word)
+    } else if (strict && crate != "" && is_word(word))
+        if (alone || is_compound(word) || behind && (last || word ~ /^[A-Z]/))
+            look_up_name(word)
+}
+
 # ---- a piece of a cell: its words, which stand between two marks of punctuation
-function look_up_piece(count, piece, in_brackets, strict,    i, word, behind_crate, bare) {
+function look_up_piece(count, piece, in_brackets, strict,    i, word, behind, before) {
     for (i = 1; i <= count; i++) {
         word = piece[i]
         if (word ~ /^\001/) {
-            bare = stash[substr(word, 2) + 0]
-            look_up_quoted(bare)
-            behind_crate = bare in crates
-            continue
+            word = stash[substr(word, 2) + 0]
+            look_up_quoted(word)
+            behind = word in crates
+            if (behind && before ~ /^programs?$/)
+                look_up_program(word)
+        } else {
+            gsub(/\002/, "()", word)
+            sub(/'s?$/, "", word)
+            look_up_word(word, count == 1, behind, i == count, in_brackets, strict)
+            behind = 0
         }
-        sub(/'s?$/, "", word)
-        if (word ~ /^[0-9,.\/^+-]*$/) {
-        } else if (word ~ /^B[0-9]+$/) {
-            counts["names"]++
-            if (!(("claims", "Bench", "b" substr(word, 2)) in names))
-                fault("no " quoted("b" substr(word, 2)) " in " quoted("crates/claims/specs/Bench.antt"))
-        } else if (is_path(word) && (word ~ /\.[a-z0-9]+$/ || word ~ /^(crates|docs|oracle|include|rust|jobs|bench|examples|\.ci)\//))
-            look_up_path(word)
-        else if (word ~ /^[A-Za-z_][A-Za-z0-9_:]*\002$/) {
-            sub(/\002/, "()", word)
-            look_up_function(word)
-        } else if (word ~ /::/) {
-            counts["names"]++
-            look_up_member(word)
-        } else if (word ~ /^[A-Z][A-Za-z0-9]*\.[A-Za-z]/)
-            look_up_in_file(word)
-        else if (strict && list != "" && in_brackets && (word ~ /_/ || count == 1 && is_word(word)))
-            look_up_maker(word)
-        else if (word ~ /^[A-Za-z0-9]+(_[A-Za-z0-9]+)+$/) {
-            if (word in crates)
-                counts["crates"]++
-            else if (strict && crate != "")
-                look_up_edit(word)
-            else
-                look_up_loosely(word)
-        } else if (strict && crate != "" && is_word(word)) {
-            if (count == 1 || word ~ /[a-z]-[a-z0-9]/ || word ~ /[a-z][A-Z]/ || behind_crate && (word ~ /^[A-Z]/ || i == count))
-                look_up_name(word)
-        }
-        behind_crate = 0
+        before = word
     }
 }
 
+# A text is cut into pieces. What stands in backticks is put aside first, so that it is not cut.
 function look_up_text(text, strict,    count, each, i, word, piece, size, in_brackets, ends, stops, opens, closes) {
     stashed = 0
     folder = ""
@@ -246,6 +264,8 @@ function look_up_text(text, strict,    count, each, i, word, piece, size, in_bra
         stash[++stashed] = substr(text, RSTART + 1, RLENGTH - 2)
         text = substr(text, 1, RSTART - 1) "\001" stashed substr(text, RSTART + RLENGTH)
     }
+    if (text ~ /`/)
+        fault("a backtick has no other on its line")
     gsub(/\(\)/, "\002", text)
     count = split(text, each, / +/)
     size = 0
@@ -295,6 +315,12 @@ function look_up_held_by(text,    rest, word, of) {
     }
     gsub(/`[^`]*`/, "", text)
     look_up_text(text, 0)
+}
+
+function crate_of(cell) {
+    sub(/^`/, "", cell)
+    sub(/`.*/, "", cell)
+    return cell
 }
 
 # ---- links
@@ -368,7 +394,9 @@ function look_up_links(text,    link, target, anchor, from) {
             counts["crates"]++
             if (!(cell in crates))
                 fault("no crate " quoted(cell))
-        } else if (document == "docs/DIFFERENCES.md" && column == columns - 1)
+        } else if (column == 2 && header ~ /^\| run \|/ && crate_of(cell) in crates)
+            look_up_program(crate_of(cell))
+        else if (document == "docs/DIFFERENCES.md" && column == columns - 1)
             look_up_held_by(cell)
         else
             look_up_text(cell, document == "docs/CLAIMS.md" && column > 2)
@@ -389,5 +417,5 @@ END {
             faults++
         }
     printf "documents: %d names, %d functions, %d edits, %d crates, %d files, %d links\n", counts["names"], counts["functions"], counts["edits"], counts["crates"], counts["paths"], counts["links"]
-    exit faults > 0
+    exit (faults > 0)
 }

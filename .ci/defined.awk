@@ -1,7 +1,10 @@
 # What the sources define, a line each, its fields parted by tabs:
 #   name CRATE FILE NAME     a definition or theorem of crates/CRATE/specs/FILE.antt; FILE.Record.field is NAME Record.field
-#   item CRATE TYPE NAME     a constant or function of crates/CRATE/src, or what TYPE has; TYPE is - for what stands by itself
-#   fn CRATE TYPE NAME       the functions among them
+#   spec CRATE FILE          that file
+#   fn CRATE TYPE NAME       a function of crates/CRATE/src; TYPE is - where it belongs to none
+#   item CRATE TYPE NAME     a constant, type or module of it, or what TYPE has
+#   program CRATE            a crate with a main
+#   maker SCRIPT NAME        a function of oracle/lists/SCRIPT.py
 #   word WORD                a word of any source, remarks left out
 function base(path) { sub(/.*\//, "", path); sub(/\.[a-z]*$/, "", path); return path }
 function indent(line) { match(line, /^ */); return RLENGTH }
@@ -57,9 +60,11 @@ is_code {
         has_members = line !~ /^impl /
         if (has_members)
             print "item\t" crate "\t-\t" name
-    } else if (line ~ /^(fn|const) /) {
-        print (line ~ /^fn / ? "fn\t" : "item\t") crate "\t" type "\t" name
-    } else if (line ~ /^mod /)
+    } else if (line ~ /^fn /)
+        print "fn\t" crate "\t" type "\t" name
+    else if (line ~ /^const /)
+        print "item\t" crate "\t" type "\t" name
+    else if (line ~ /^mod /)
         print "item\t" crate "\t-\t" name
     else if (type != "-" && has_members && indent($0) == 4 && line ~ /^[A-Za-z_][A-Za-z0-9_]*(:|,| \{|\()/)
         print "item\t" crate "\t" type "\t" name
@@ -67,7 +72,6 @@ is_code {
         type = "-"
 }
 
-# Functions of the scripts that make the lists, in brackets behind a program in docs/CLAIMS.md.
 FILENAME ~ /^oracle\/lists\/.*\.py$/ && /^ *def / {
     name = $2
     sub(/\(.*/, "", name)

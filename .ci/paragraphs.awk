@@ -53,5 +53,5 @@ FILENAME == "docs/CLAIMS.md" && match($0, /^\| [0-9]+\.[0-9]+((, | and | to )[0-
 
 END {
     printf "documents: %d citations of docs/SPEC.md\n", cited
-    exit faults > 0
+    exit (faults > 0)
 }
