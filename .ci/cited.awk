@@ -11,7 +11,7 @@ BEGIN { FS = "\t" }
 $1 == "crate" { crates[$2]; next }
 $1 == "program" { programs[$2]; next }
 $1 == "spec" { specs[$2, $3]; anywhere[$3]; next }
-$1 == "name" { names[$2, $3, $4]; of_crate[$2, $4]; anywhere[$4]; next }
+$1 == "name" { names[$2, $3, $4]; spec_names[$2, $4]; anywhere[$4]; next }
 $1 == "item" || $1 == "fn" {
     if ($3 == "-")
         of_crate[$2, $4]
@@ -125,14 +125,18 @@ function look_up_name(word) {
     counts["names"]++
     if ((crate, file, word) in names)
         return
+    if ((crate, word) in specs) {
+        file = word
+        return
+    }
     if ((crate, word) in edits) {
         name_edit(word)
         return
     }
-    if ((crate, word) in specs || (crate, word) in of_crate || (crate, word) in member_names)
+    if ((crate, word) in of_crate || (crate, word) in member_names || file == "" && (crate, word) in spec_names)
         return
     if (!is_elsewhere(word))
-        fault("no " quoted(word) " in crate " quoted(crate))
+        fault("no " quoted(word) " in " (file == "" ? "crate " quoted(crate) : quoted("crates/" crate "/specs/" file ".antt")))
 }
 
 # A word with an underscore, behind a crate: an edit, unless the crate has such a function, constant or module.
@@ -171,7 +175,8 @@ function look_up_program(word) {
         fault("the crate " quoted(word) " is no program")
 }
 
-function is_path(word) { return word ~ /^[A-Za-z0-9_.-]*\/[A-Za-z0-9_.\/-]*$/ || word ~ /^[A-Za-z0-9_-]+\.(antt|rt|rs|md|txt|h|c|py|fbs|sha256|toml|edit)$/ }
+function is_file(word) { return word ~ /^[A-Za-z0-9_-]+\.(antt|rt|rs|md|txt|h|c|py|fbs|sha256|toml|edit)$/ }
+function is_path(word) { return is_file(word) || word ~ /^[A-Za-z0-9_.-]*\/[A-Za-z0-9_.\/-]*$/ }
 function is_rooted(word) { return word ~ /^(crates|docs|oracle|include|rust|jobs|bench|examples|\.ci)\// }
 function is_compound(word) { return word ~ /[a-z]-[a-z0-9]|[a-z][A-Z]/ }
 function is_word(word) { return word ~ /^[A-Za-z_][A-Za-z0-9_-]*$/ }
@@ -308,14 +313,16 @@ function look_up_held_by(text,    rest, word, of) {
         counts["names"]++
         if (sub(/.*\(/, "", of)) {
             sub(/\)/, "", of)
-            if (!((of, word) in of_crate))
+            if (!((of, word) in spec_names))
                 fault("no " quoted(word) " in crate " quoted(of))
-        } else if (!(("format", "DifferencesWritten", word) in names || ("format", "DifferencesRead", word) in names || ("format", "DifferencesProperties", word) in names))
+        } else if (!(is_difference("Written", word) || is_difference("Read", word) || is_difference("Properties", word)))
             fault("no " quoted(word) " in the Differences of crate " quoted("format"))
     }
     gsub(/`[^`]*`/, "", text)
     look_up_text(text, 0)
 }
+
+function is_difference(sort, word) { return ("format", "Differences" sort, word) in names }
 
 function crate_of(cell) {
     sub(/^`/, "", cell)
@@ -416,6 +423,7 @@ END {
             print "documents: .ci/elsewhere: no document needs " quoted(word)
             faults++
         }
-    printf "documents: %d names, %d functions, %d edits, %d crates, %d files, %d links\n", counts["names"], counts["functions"], counts["edits"], counts["crates"], counts["paths"], counts["links"]
+    printf "documents: %d names, %d functions, %d edits, ", counts["names"], counts["functions"], counts["edits"]
+    printf "%d crates, %d files, %d links\n", counts["crates"], counts["paths"], counts["links"]
     exit (faults > 0)
 }
