@@ -1,6 +1,6 @@
 -- Where the reader and the format part: trees that are read though they mean nothing, and trees that mean something and are refused. Each is the smallest, computed.
 use mathlib.Core.Path.{_≡_, refl}
-use mathlib.Core.Bool.{false}
+use mathlib.Core.Bool.{true, false}
 use mathlib.Core.List.{List, [], _∷_}
 use mathlib.Core.Option.{none, some}
 use Prim.Native.Nat.{ℕ}
@@ -135,6 +135,21 @@ curve-in-curve = record { read = refl; no-meaning = meaningless (empty 0 (some (
 
     go : (s : Simple) → OfType 9 s → Is (getElem? curveInCurve) (empty 0 (some (1, 1))) s → ⊥
     go s (ofCompound ss) h = let x = only-part (IsSegment (getElem? curveInCurve)) _ _ ss refl h in no-segment (x .0) (x .1)
+
+-- a polygon, with its tag, in a CompoundCurve, where the root's stored type is a MultiSurface's
+abbrev polygonInCurve : List Rec
+polygonInCurve = empty 12 (some (1, 1)) ∷ table 3 (1 ∷ 2 ∷ []) none ∷ []
+
+pub polygon-in-curve : Stray plain polygonInCurve 9 (beginE 9 false 1 0 ∷ beginE 3 true 1 0 ∷ beginE 2 false 1 0 ∷ xyE 1 2 0 ∷ endE 2 false 0 ∷ endE 3 true 0 ∷ endE 9 false 0 ∷ [])
+unfolding readUnder
+polygon-in-curve = record { read = refl; no-meaning = meaningless (empty 12 (some (1, 1))) (table 3 (1 ∷ 2 ∷ []) none ∷ []) 9 refl refl go }
+  where
+    no-segment : (s : Segment) → IsSegment (getElem? polygonInCurve) (table 3 (1 ∷ 2 ∷ []) none) s → ⊥
+    no-segment (straight l) h = let e = h .0 in omega arith
+    no-segment (arc l) h = let e = h .0 in omega arith
+
+    go : (s : Simple) → OfType 9 s → Is (getElem? polygonInCurve) (empty 12 (some (1, 1))) s → ⊥
+    go s (ofCompound ss) h = let x = only-part (IsSegment (getElem? polygonInCurve)) _ _ ss refl h in no-segment (x .0) (x .1)
 
 -- ---- meaning something, and refused: read_curve goes by the root's own type, which the header need not repeat
 pub record Denied (recs : List Rec) (type : ℕ) (s : Simple) (said : Script Event) : Type 0 where
