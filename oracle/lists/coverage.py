@@ -149,6 +149,9 @@ BEYOND = (
 # What an entry tells beyond the inputs that `differences.py` has for it. A log of 1,048,577 records is longer than the programs lend.
 ENTRIES = {
     "TIN with no xy": lambda lists: lists.was_read(0, 2, lambda tree: tree.events[:2] == (16, 1)),
+    "read as CompoundCurve, CurvePolygon or MultiCurve: root stored as type 12, with a part of type 3 or 10":
+    lambda lists: all(lists.was_read(0, where=lambda tree: tree.declared == declared and kinds_of(tree)[:2] == [12, kind])
+                      for declared in (9, 10, 11) for kind in (3, 10)),
     "column above 65,535": lambda lists: lists.was_written(16, lambda case: case.column == 65536),
     "text not UTF-8, written": lambda lists: lists.was_written(6, lambda case: (case.kind, case.text) == (11, b"\x80")),
     "value beyond its type": lambda lists: lists.was_written(11, lambda case: (case.kind, case.bits) == (2, 2))
@@ -170,6 +173,11 @@ ENTRIES = {
     "A begin's size": lambda lists: all(lists.was_laid(HEARD, number, lambda event: event[:1] == kind and any(event[4:8]))
                                         for kind, number in ((b"\2", 0), (b"\1", 11))),
 }
+
+
+def kinds_of(tree):
+    """The stored type of each record."""
+    return [first & 255 for first in tree.lists[0][::16]]
 
 
 def is_spare_set(tree, record):
