@@ -178,7 +178,7 @@ class Reading:
             raise Refused(TYPE_UNKNOWN)
 
 
-def read_by_paper(table, pools, declared, flags):
+def read_by_spec(table, pools, declared, flags):
     reading = Reading(table, pools, flags)
     try:
         root = reading.record(0, 1)
@@ -189,7 +189,7 @@ def read_by_paper(table, pools, declared, flags):
 
 
 def answer(table, pools, declared, flags):
-    number, said = read_by_paper(table, pools, declared, flags)
+    number, said = read_by_spec(table, pools, declared, flags)
     asked = oracle.read(Store(table, pools), declared, flags)
     assert (asked.number, asked.events) == (number, said), (declared, flags, table, pools, number, asked)
     counts["trees"] += 1

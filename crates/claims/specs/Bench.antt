@@ -1,4 +1,4 @@
--- 01, "Benchmarks for both sides": B1 to B14 in one table. A tree is what the calls make of the events' bytes on lent memory, read off record by record; a reading is the script that `read` says to its log.
+-- SPEC 12.1 to 12.3: B1 to B14 in one table. A tree is what the calls make of the events' bytes on lent memory, read off record by record; a reading is the script that `read` says to its log.
 use mathlib.Core.Path.{_≡_, refl}
 use mathlib.Core.Bool.{Bool, true, false}
 use mathlib.Core.List.{List, [], _∷_, _++_}

@@ -1,4 +1,4 @@
--- Demand 3, over the calls that a machine links: at the moment when the steps accepted since start are those of two-dimensional features of the declared type, the last of them finished, reading its tree into a log with room repeats its events, and no other tree that reads to those events holds fewer geometries and numbers together. Properties, refused calls and calls of many events may stand anywhere in between.
+-- SPEC 11.19, demand 3, over the calls that a machine links: once the steps accepted since start are those of features of the declared type, the last of them finished, reading its tree into a log with room gives its events again, and every tree that reads so is at least as large. Properties, refused calls and calls of many events may stand anywhere in between.
 use mathlib.Core.Path.{_≡_, refl, sym, ap, _∙_}
 use mathlib.Core.Bool.{true, false, cond}
 use mathlib.Core.List.{List, [], _∷_, _++_}

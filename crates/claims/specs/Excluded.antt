@@ -1,4 +1,4 @@
--- 01, "Excluded by demand 2": programs that a contract rules out. Each is any program of its kind, taken as what it answers and leaves; that it met the call's contract is absurd.
+-- SPEC 11.21: programs that a contract rules out. Each is any program of its kind, taken as what it answers and leaves; that it met the call's contract is absurd.
 use mathlib.Core.Path.{_≡_, refl, sym, ap, _∙_}
 use mathlib.Core.Bool.{true, false}
 use mathlib.Core.List.{List, [], _∷_, _++_}

@@ -1,4 +1,4 @@
--- A row of the calls that a machine links, from start on, in any order, accepted or refused, and what of it was accepted.
+-- SPEC 11.4: a row of the calls that a machine links, from start on, in any order, accepted or refused, and what of it was accepted.
 use mathlib.Core.Path.{_≡_}
 use mathlib.Core.Bool.{cond}
 use mathlib.Core.List.{List, [], _∷_, _++_}

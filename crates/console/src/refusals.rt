@@ -13,7 +13,7 @@ unexpected type in a curve|\
 types mixed|\
 text is not UTF-8|\
 a coordinate or a z, m, t or tm value past its list|\
-an end of 2^31 or more, or below the one before|\
+an end that is 2^31 or larger, or less than the end before it|\
 the log is full|\
 bad geometry record or table|\
 malformed event or value|\

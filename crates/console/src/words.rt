@@ -1,4 +1,4 @@
-// The numbers of the paper in words. A table has a word for each number from 0 on, with a bar between two.
+// The numbers of SPEC 2 and 5.1 in words. A table has a word for each number from 0 on, with a bar between two.
 use crate::output::say;
 ghost use Prim.Native.Nat.{_≤_};
 ghost use lib.ListN.{length};

@@ -1,4 +1,4 @@
--- 01: "A tree's geometries are the records reached from the root; its numbers are the counts of their lists other than parts, added record by record." A record that is reached twice counts once.
+-- SPEC 11.18: a tree's size, the records reached from its root and the counts of their lists other than parts. A record that is reached twice counts once.
 use mathlib.Core.Path.{_≡_}
 use mathlib.Core.Bool.{Bool, false, cond, _&&_, _||_}
 use mathlib.Core.List.{List}

@@ -1,4 +1,4 @@
--- The paper's worked examples: the trees that the writer on lists makes.
+-- The examples of SPEC 12.1: the trees that the writer on lists makes.
 use mathlib.Core.Path.{_≡_, refl}
 use mathlib.Core.List.{List, [], _∷_, _++_}
 use mathlib.Core.Option.{Option, none, some}

@@ -1,4 +1,4 @@
--- The paper's worked examples by calls on lent memory of just the size they need: every call is accepted, and the tree that is read off it
+-- The examples of SPEC 12.1 by calls on lent memory of just the size they need: every call is accepted, and the tree that is read off it
 -- is that of the writer on lists. So no theorem on rows of calls is empty.
 use mathlib.Core.Path.{_≡_, refl, subst}
 use mathlib.Core.Bool.{Bool, true, false}
