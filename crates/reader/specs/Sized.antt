@@ -1,13 +1,14 @@
 -- Every event that a reading says fits a record of 64 bytes, where the pools that are lent hold words.
 use mathlib.Core.Path.{_≡_, refl}
 use mathlib.Core.Bool.{Bool, true, false, not, _&&_, _||_}
-use mathlib.Core.List.{List}
+use mathlib.Core.List.{List, [], _∷_}
 use mathlib.Core.Option.{Option, none, some}
 use Prim.Native.Nat.{ℕ, zero, suc, _+_}
 use native.Mathlib.Omega.{arith}
 use lib.ListN.{length, drop, length-take}
-use lib.Dec.{leb, eqb, lit<}
-use Rattle.laws.specs.Every.{never}
+use lib.Dec.{leb, ltb, eqb, lit<}
+use borrow.Author.Tests.{ltb-true}
+use Rattle.laws.specs.Every.{never, both, each}
 use Rattle.laws.specs.Script.{Script, stop}
 use Rattle.kinds.specs.Event.{wellFormed, beginE, endE}
 use Rattle.kinds.specs.Lanes.{xyL, endsL}
@@ -19,7 +20,7 @@ use Rattle.kinds.specs.declared.geometry.Judged.{Judged}
 use Rattle.kinds.specs.declared.geometry.Judged.the-variants.{Good, Bad}
 use Rattle.store.specs.Records.{recordAt}
 use Rattle.store.specs.RecordLaws.{InPool, InTable, within}
-use Rattle.store.specs.Lists.{Pools, Rec, lentOf, listOf, partsOf, listsOf, seen, recordWith}
+use Rattle.store.specs.Lists.{Pools, poolsOf, Rec, lentOf, listOf, partsOf, listsOf, seen, recordWith}
 use Rattle.coords.specs.Coords.{Coords, coordsOf}
 use Rattle.lines.specs.Lines.{orNone, polygonS}
 use Rattle.reader.specs.Reading.{partsS, spanS, found, polygonPart, curveOf, curveS, kindS, geometryS, rootS, readS}
@@ -135,6 +136,16 @@ pub record InWords (P : Pools) : Type 0 where
   pub m : Words (P .m)
   pub t : Words (P .t)
   pub tm : Words (P .tm)
+
+-- that a list holds words is one test
+pub words-tested : (l : List ℕ) → each (λ v. ltb v 18446744073709551616) l ≡ true → Words l
+words-tested [] h i = lit< tt
+words-tested (v ∷ l) h zero = ltb-true v 18446744073709551616 (both (ltb v 18446744073709551616) (each (λ v. ltb v 18446744073709551616) l) h .0)
+words-tested (v ∷ l) h (suc i) = words-tested l (both (ltb v 18446744073709551616) (each (λ v. ltb v 18446744073709551616) l) h .1) i
+
+-- the pools of a point, whose words are the largest there are
+pub largest-words : InWords (poolsOf (18446744073709551615 ∷ 18446744073709551615 ∷ []) [] [] [] [] [])
+largest-words = record { xy = words-tested (18446744073709551615 ∷ 18446744073709551615 ∷ []) refl; z = words-tested [] refl; m = words-tested [] refl; t = words-tested [] refl; tm = words-tested [] refl }
 
 stretch-words : (pool : List ℕ) (s : Span) → Words pool → WordsIn (listOf pool s)
 stretch-words pool Absent h = λ i. lit< tt
