@@ -5,8 +5,10 @@ use mathlib.Core.List.{List, [], _∷_}
 use mathlib.Core.Option.{Option}
 use Prim.Native.Nat.{ℕ, _+_, _<_, _≤_}
 use native.Mathlib.Omega.{arith}
-use lib.ListN.{length}
+use lib.ListN.{length, length-take}
 use lib.Dec.{lit<}
+use Rattle.laws.specs.Script.{Script, Format}
+use Rattle.laws.specs.Cut.{recordsOf, roomOf, Said}
 use Rattle.kinds.specs.Event.{wellFormed, beginE, endE, xyE}
 use Rattle.kinds.specs.declared.event.Event.{Event}
 use Rattle.kinds.specs.declared.flags.Flags.{Flags}
@@ -14,6 +16,7 @@ use Rattle.reader.specs.Fits.{Fits, U32, U64, Frame, begin-fits, end-fits, fram
 use Rattle.geometry.specs.Coordinate.{multi, or0, coordE}
 use Rattle.geometry.specs.Geometry.{Coord, Line, Rings, Segment, straight, arc, Curve, segment, compound, Surface, flat, curved, Simple, point, lineString, polygon, multiPoint, multiLineString, multiPolygon, circularString, compoundCurve, curvePolygon, multiCurve, multiSurface, polyhedralSurface, tin, triangle}
 use Rattle.geometry.specs.Events.{Tells, shown, each, group, seenAs, coordOf, lineOf, triangleOf, segmentOf, curveOf, surfaceOf, simpleOf, eventsOf}
+use Rattle.geometry.specs.Told.{Complete}
 use Rattle.format.specs.Writable.{All}
 
 -- ---- what holds of each coordinate of a geometry
@@ -169,3 +172,11 @@ module _ (F : Flags) where
   pub events-fit : (s : Simple) → OfSimple InCoord s → U32 (length (eventsOf F 0 s)) → All Fits (eventsOf F 0 s)
   unfolding eventsOf
   events-fit s h few = simple-told s h .fit 0 [] (omega arith) tt
+
+-- ---- a log counts the events that it is left with
+few-logged : {A : Type 0} (F : Format A) (s : Script A) (l : List A) (L : List ℕ) (number count : ℕ) (M : List ℕ) → Said F s L number count M → Complete F l L number count M → length l ≤ 1048576
+unfolding roomOf
+few-logged F s l L number count M said complete = omega (arith, said .count-is, complete .count-is, length-take (roomOf (F .wide) L) (recordsOf s))
+
+pub logged-fit : (F : Flags) (s : Simple) (E : Format Event) (r : Script Event) (L : List ℕ) (number count : ℕ) (M : List ℕ) → OfSimple InCoord s → Said E r L number count M → Complete E (eventsOf F 0 s) L number count M → All Fits (eventsOf F 0 s)
+logged-fit F s E r L number count M h said complete = events-fit F s h (omega (arith, few-logged E r (eventsOf F 0 s) L number count M said complete))

@@ -1,10 +1,10 @@
 -- What a log's bytes tell of the script that was said to it: where they are a list's records, and all fit, the script says that list.
-use mathlib.Core.Path.{_≡_, refl, sym, ap, ap₂, _∙_}
+use mathlib.Core.Path.{_≡_, refl, sym, ap, ap₂, subst, _∙_}
 use mathlib.Core.Bool.{Bool, true, false, cond}
 use mathlib.Core.List.{List, [], _∷_, _++_, append-assoc}
 use Prim.Native.Nat.{ℕ, _*_, _≤_}
 use native.Mathlib.Omega.{arith}
-use lib.ListN.{length, take, drop, length-take}
+use lib.ListN.{length, take, drop}
 use lib.Seq.{take-at, drop-at, take-all}
 use lib.Dec.{leb}
 use borrow.Author.Tests.{leb-true}
@@ -23,13 +23,12 @@ use Rattle.writer_model.specs.Writer.{tree}
 use Rattle.writer_model.specs.Tree.{Holds}
 use Rattle.geometry.specs.Geometry.{Simple, typeOf}
 use Rattle.geometry.specs.Events.{eventsOf}
-use Rattle.geometry.specs.Told.{told, Complete}
+use Rattle.geometry.specs.Told.{told, told-records, Complete}
 use Rattle.format.specs.Writable.{All, Held, Writable}
 use Rattle.format.specs.Writes.{ending}
 use Rattle.least.specs.Least.{leastOf}
 use Rattle.least.specs.Sound.{treeSize}
 use Rattle.least.specs.Smallest.{table-at-least, table-at-most}
-use Rattle.least.specs.EventsFit.{OfSimple, InCoord, events-fit}
 
 module _ {A : Type 0} where
   all-records : (P : A → Type 0) (s : Script A) → AllSaid P s → All P (recordsOf s)
@@ -67,32 +66,27 @@ module _ {A : Type 0} (F : Format A) (P : A → Type 0) (apart : (a b : A) → P
           done-told s (sym n ∙ complete .number-is) ∙ ap told (same-records (recordsOf s) l _ _ (all-records P s p) q long bytes)
       go false room n = absurd (omega (arith, n, complete .number-is))
 
--- no more than a log's usable records
-few-logged : {A : Type 0} (F : Format A) (s : Script A) (l : List A) (L : List ℕ) (number count : ℕ) (M : List ℕ) → Said F s L number count M → Complete F l L number count M → length l ≤ 1048576
-unfolding roomOf
-few-logged F s l L number count M said complete = omega (arith, said .count-is, complete .count-is, length-take (roomOf (F .wide) L) (recordsOf s))
-
 -- ---- events
 heard-apart : (a b : Event) → Fits a → Fits b → events .bytes a ≡ events .bytes b → a ≡ b
 heard-apart a b p q e =
     let same : WellFormed a ≡ WellFormed b = sym (hear-said a (p .sized) (p .formed)) ∙ ap heard e ∙ hear-said b (q .sized) (q .formed) in
     cc
 
-module _ (F : Flags) (s : Simple) (table : List ℕ) (P : Pools) (declared : ℕ) (L : List ℕ) (number count : ℕ) (M : List ℕ)
-    (said : Said events (readS F (recordWith table P) declared) L number count M) (complete : Complete events (eventsOf F 0 s) L number count M) where
-  -- the log counts a geometry's events, so they fit where its coordinates are words
-  pub logged-fit : OfSimple InCoord s → All Fits (eventsOf F 0 s)
-  logged-fit h = events-fit F s h (omega (arith, few-logged events (readS F (recordWith table P) declared) (eventsOf F 0 s) L number count M said complete))
+module _ (F : Flags) (table : List ℕ) (P : Pools) (words : InWords P) (declared : ℕ) (es : List Event) where
+  -- what a reading of words says fits
+  pub told-fit : readS F (recordWith table P) declared ≡ told es → All Fits es
+  told-fit e = subst (All Fits) (ap recordsOf e ∙ told-records es) (all-records Fits (readS F (recordWith table P) declared) (table-says table P words F declared))
 
-  -- what is read from pools of words, and leaves a geometry's events in a log, says just these
-  pub logged-reads : InWords P → All Fits (eventsOf F 0 s) → readS F (recordWith table P) declared ≡ told (eventsOf F 0 s)
-  logged-reads words fit = logged events Fits heard-apart (readS F (recordWith table P) declared) (eventsOf F 0 s) L number count M (table-says table P words F declared) fit said complete
+  -- a reading of words that leaves events in a log, and they fit, says just these
+  pub logged-reads : All Fits es → (L : List ℕ) (number count : ℕ) (M : List ℕ) → Said events (readS F (recordWith table P) declared) L number count M → Complete events es L number count M
+      → readS F (recordWith table P) declared ≡ told es
+  logged-reads fit L number count M said complete = logged events Fits heard-apart (readS F (recordWith table P) declared) es L number count M (table-says table P words F declared) fit said complete
 
 -- ---- no table and pools of words that leave a geometry's events in a log are smaller than the least, nor than the tree that the writer leaves
 module _ (F : Flags) (s : Simple) (fit : All Fits (eventsOf F 0 s)) (table : List ℕ) (P : Pools) (words : InWords P) (L : List ℕ) (number count : ℕ) (M : List ℕ)
     (said : Said events (readS F (recordWith table P) (typeOf s)) L number count M) (complete : Complete events (eventsOf F 0 s) L number count M) where
   pub logged-at-least : leastOf F s ≤ treeSize table P
-  logged-at-least = table-at-least F s table P (logged-reads F s table P (typeOf s) L number count M said complete words fit)
+  logged-at-least = table-at-least F s table P (logged-reads F table P words (typeOf s) (eventsOf F 0 s) fit L number count M said complete)
 
   pub logged-smallest : (k : Held) (h : Typing) (own : List ℕ) (pools : Pools) → Writable F s k → Holds (recordWith own pools) 0 (tree (ending h k)) → treeSize own pools ≤ treeSize table P
   logged-smallest k h own pools q o = omega (arith, table-at-most F s k h own pools q o, logged-at-least)
