@@ -13,6 +13,7 @@ use Rattle.log.specs.Log.{events}
 use Rattle.store.specs.Records.{tableGood}
 use Rattle.reader.specs.Reading.{readS}
 use Rattle.reader.specs.Examples.{noFlags}
+use Rattle.reader.specs.Sized.{InWords}
 use Rattle.asking.specs.declared.typing.Typing.{Typing}
 use Rattle.writing.specs.State.{Mem}
 use Rattle.bintolage.specs.Calls.{yes}
@@ -23,11 +24,12 @@ use Rattle.geometry.specs.Events.{eventsOf}
 use Rattle.format.specs.Format.{Tree}
 use Rattle.geometry.specs.Told.{told, Complete}
 use Rattle.format.specs.Reads.{agrees}
-use Rattle.format.specs.ReadsCall.{reads-said}
+use Rattle.format.specs.ReadsCall.{table-reads, reads-said}
 use Rattle.format.specs.Writable.{Held, Writable}
 use Rattle.format.specs.Writes.{normal, resting, fresh-rests, ending, ending-means, ending-rests, declared, starts, over-is}
 use Rattle.least.specs.Sound.{treeSize}
 use Rattle.least.specs.Smallest.{smallest}
+use Rattle.least.specs.Logged.{told-fit, logged-reads}
 use Rattle.claims.specs.Row.{Lends, Step, finished, renewed, tookAll, Accepted, Row}
 use Rattle.claims.specs.Linked.{made, made-then, made-events, finished-tree}
 
@@ -45,6 +47,9 @@ pub record Repeats (type : ℕ) (f : Simple) (m : Mem) : Type 0 where
       → Said events (readS noFlags (recordWith (m .table) (m .pools)) type) L number count M → Complete events (eventsOf noFlags 0 f) L number count M
   -- no table and pools whatsoever that read to these events hold less
   pub least : (table : List ℕ) (P : Pools) → readS noFlags (recordWith table P) type ≡ told (eventsOf noFlags 0 f) → treeSize (m .table) (m .pools) ≤ treeSize table P
+  -- nor do any whose reading leaves these very records in a log; both are pools of words, as whatever is lent is
+  pub least-logged : InWords (m .pools) → (table : List ℕ) (P : Pools) → InWords P → (L : List ℕ) (number count : ℕ) (M : List ℕ)
+      → Said events (readS noFlags (recordWith table P) type) L number count M → Complete events (eventsOf noFlags 0 f) L number count M → treeSize (m .table) (m .pools) ≤ treeSize table P
 
 -- ---- a feature's steps: its events and finish; features that are done with, each with next behind it
 abbrev pub featureSteps : Simple → List Step
@@ -117,13 +122,18 @@ module _ (type detect promote : ℕ) where
         let get : ℕ → Option Rec = recordWith (m .table) (m .pools) in
         let here : Holds get 0 (tree (ending typed (d .2))) = rw after-is at held in
         let t : Tree get 0 type f = ending-means noFlags get typed type f (d .2) (d .3) (under type then (typeOf f) (d .0) known) here in
+        let agrees = agreed type f (t .root .kind) (d .0) (d .1) in
+        let shallow = six f 0 (d .1) .1 in
         record {
-          reads = λ L number count M room said. reads-said (m .table) (m .pools) noFlags 0 type f L number count M t (agreed type f (t .root .kind) (d .0) (d .1)) (six f 0 (d .1) .1) room said;
-          least = λ table P h. smallest noFlags f (d .2) typed (m .table) table (m .pools) P (d .3) here (under-its-type table P h);
+          reads = λ L number count M room said. reads-said (m .table) (m .pools) noFlags 0 type f L number count M t agrees shallow room said;
+          least = no-smaller here;
+          least-logged = λ own table P words L number count M said complete.
+            let fit = told-fit noFlags (m .table) (m .pools) own type (eventsOf noFlags 0 f) (table-reads (m .table) (m .pools) noFlags 0 type f t agrees shallow) in
+            no-smaller here table P (logged-reads noFlags table P words type (eventsOf noFlags 0 f) fit L number count M said complete);
         }
       where
-        under-its-type : (table : List ℕ) (P : Pools) → readS noFlags (recordWith table P) type ≡ told (eventsOf noFlags 0 f) → readS noFlags (recordWith table P) (typeOf f) ≡ told (eventsOf noFlags 0 f)
-        under-its-type table P h = ap (λ (n : ℕ). readS noFlags (recordWith table P) n) (d .0) ∙ h
+        no-smaller : Holds (recordWith (m .table) (m .pools)) 0 (tree (ending typed (d .2))) → (table : List ℕ) (P : Pools) → readS noFlags (recordWith table P) type ≡ told (eventsOf noFlags 0 f) → treeSize (m .table) (m .pools) ≤ treeSize table P
+        no-smaller here table P h = smallest noFlags f (d .2) typed (m .table) table (m .pools) P (d .3) here (ap (λ (n : ℕ). readS noFlags (recordWith table P) n) (d .0) ∙ h)
 
   -- features that are done with leave it between two
   passes : (fs : List Simple) (current : ℕ) → AllDemanded type fs → (later : ℕ) × (made (between current) (passed fs) ≡ between later)

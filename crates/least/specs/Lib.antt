@@ -13,3 +13,5 @@ pub mod Below
 pub mod Above
 pub mod Written
 pub mod Smallest
+pub mod EventsFit
+pub mod Logged

@@ -3,3 +3,6 @@ pub mod Roles
 pub mod RoleLaws
 pub mod Lone
 pub mod Examples
+pub mod Fits
+pub mod OwnFits
+pub mod Sized
