@@ -177,7 +177,7 @@ static void print_properties(void)
 
 int main(void)
 {
-    bintolage_start(BINTOLAGE_POLYGON, 0, 0, &state);
+    bintolage_start(&state, BINTOLAGE_POLYGON, 0, 0);
     write_field();
     write_property(0, bits_of(1.15), "");
     write_property(1, 3, "");

@@ -30,7 +30,7 @@ static uint64_t edges[4];
 
 #define POOLS xy, 64, ends, 32, z, 32, m, 32, t, 32, tm, 32
 
-static void start(void) { bintolage_start(BINTOLAGE_POLYGON, 1, 1, &state); }
+static void start(void) { bintolage_start(&state, BINTOLAGE_POLYGON, 1, 1); }
 static void take(void) { bintolage_event(&state, event, sizeof event, table, sizeof table, POOLS); }
 static void take_many(void) { bintolage_events(&state, event, sizeof event, table, sizeof table, POOLS, &taken); }
 static void property(void) { bintolage_property(&state, 0, BINTOLAGE_COLUMN_STRING, 0, text, sizeof text, buffer, sizeof buffer); }
@@ -124,7 +124,7 @@ static long deepest_event(void (*made)(void))
 {
     long most = 0;
     for (int kind = 0; kind < 256; kind++) {
-        bintolage_start(BINTOLAGE_GEOMETRY_COLLECTION, 0, 0, &state);
+        bintolage_start(&state, BINTOLAGE_GEOMETRY_COLLECTION, 0, 0);
         memset(event, 0, sizeof event);
         event[0] = BINTOLAGE_GEOMETRY_COLLECTION;
         take();

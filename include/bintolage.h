@@ -216,7 +216,7 @@ typedef struct bintolage_state {
  * first type that is seen becomes the declared type; with `promote` a LineString may go into a MultiLineString and a
  * Polygon into a MultiPolygon. For both, 0 is no and all else is yes.
  */
-void bintolage_start(uint8_t declared, uint8_t detect, uint8_t promote, bintolage_state *state);
+void bintolage_start(bintolage_state *state, uint8_t declared, uint8_t detect, uint8_t promote);
 
 /*
  * Takes one event record. Refused: 11, 15, 5, 12.
@@ -257,7 +257,7 @@ uint8_t bintolage_events(
  */
 uint8_t bintolage_property(
     bintolage_state *state,
-    uint32_t column, uint8_t type, uint64_t bits,
+    uint32_t column, uint8_t column_type, uint64_t bits,
     const uint8_t *text, size_t text_bytes,
     uint8_t *buffer, size_t buffer_bytes);
 

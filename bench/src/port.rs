@@ -27,7 +27,7 @@ impl Lists {
 impl Port {
     pub fn new(declared: u8) -> Port {
         let mut state = [0; STATE_WORDS];
-        bare::start(declared, false, false, &mut state);
+        bare::start(&mut state, declared, false, false);
         let lists = Lists {
             table: vec![0; GEOMETRY_BYTES * MOST_RECORDS],
             xy: vec![0; MOST_WORDS[0]],

@@ -92,7 +92,7 @@ impl Memory {
 
 pub fn start(declared: u8, detect: bool, promote: bool) -> Words {
     let mut state = [0xC0DE_C0DE; STATE_WORDS];
-    bare::start(declared, detect, promote, &mut state);
+    bare::start(&mut state, declared, detect, promote);
     state
 }
 
