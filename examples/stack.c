@@ -39,7 +39,8 @@ static void next(void) { bintolage_next(&state, table, sizeof table, POOLS); }
 static void read_tree(void) { bintolage_read(table, sizeof table, POOLS, 0, 15, records, sizeof records, &count); }
 static void read_properties(void)
 {
-    bintolage_read_properties(buffer, state.words[2], 1, columns, sizeof columns, 65536, records, sizeof records, &count, &stopped);
+    bintolage_read_properties(buffer, state.words[2], 1, columns, sizeof columns, BINTOLAGE_NO_STOP, records, sizeof records,
+                              &count, &stopped);
 }
 static void box(void) { bintolage_box(table, sizeof table, POOLS, 0, edges); }
 
@@ -72,18 +73,11 @@ static long depth(void (*made)(void))
     return (long)(top - low);
 }
 
-static void put32(uint8_t *at, uint32_t number)
-{
-    for (int i = 0; i < 4; i++) {
-        at[i] = (uint8_t)(number >> (8 * i));
-    }
-}
-
 static void put_list(uint8_t *record, int lane, uint32_t first, uint32_t length)
 {
     record[1] |= (uint8_t)(1 << lane);
-    put32(record + 4 + 8 * lane, first);
-    put32(record + 8 + 8 * lane, length);
+    bintolage_put32(record + 4 + 8 * lane, first);
+    bintolage_put32(record + 8 + 8 * lane, length);
 }
 
 /* Records 0 to 14 are collections of one part; record 15, at level 16, has every list but parts, and so many ends. */
@@ -109,7 +103,7 @@ static long deepest_read(int *deepest)
 {
     long most = 0;
     for (int i = 0; i < 3 * 256; i++) {
-        nest((uint8_t)(i / 3), i % 3);
+        nest((uint8_t)(i / 3), (uint32_t)(i % 3));
         long d = depth(read_tree);
         if (d > most) {
             most = d;
