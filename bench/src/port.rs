@@ -47,8 +47,8 @@ impl Port {
         bare::events(&mut self.state, events, &mut self.lists.lend(), &mut taken)
     }
 
-    pub fn property(&mut self, column: u32, kind: u8, bits: u64, text: &[u8]) -> u8 {
-        bare::property(&mut self.state, column, kind, bits, text, &mut self.properties)
+    pub fn property(&mut self, column: u32, column_type: u8, bits: u64, text: &[u8]) -> u8 {
+        bare::property(&mut self.state, column, column_type, bits, text, &mut self.properties)
     }
 
     pub fn finish(&mut self) -> u8 {
