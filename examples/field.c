@@ -3,188 +3,119 @@
 
 #include <stdio.h>
 #include <stdlib.h>
-#include <string.h>
 
-/* A small terminal's memory. */
-#define RECORDS 8
-#define PAIRS 64
-#define EVENTS 64
-#define VALUES 8
-
+/* A small terminal's memory; z, m, t and tm are not used. */
 static bintolage_state state;
-static uint8_t table[RECORDS * BINTOLAGE_GEOMETRY_BYTES];
-static uint64_t xy[2 * PAIRS];
-static uint32_t ends[PAIRS];
-static uint64_t none[1]; /* z, m, t and tm are not used: no word of it is lent */
+static uint8_t table[8 * BINTOLAGE_GEOMETRY_BYTES];
+static uint64_t xy[128];
+static uint32_t ends[64];
 static uint8_t properties[256];
-static uint8_t events[EVENTS * BINTOLAGE_EVENT_BYTES];
-static uint8_t values[VALUES * BINTOLAGE_VALUE_BYTES];
+static bintolage_event_record events[64];
+static bintolage_value_record values[8];
 
-#define POOLS xy, 2 * PAIRS, ends, PAIRS, none, 0, none, 0, none, 0, none, 0
+static const bintolage_memory memory = {
+    .table = table, .table_bytes = sizeof table,
+    .xy = xy, .xy_words = 128,
+    .ends = ends, .ends_words = 64,
+    .properties = properties, .properties_bytes = sizeof properties,
+};
 
 static const uint8_t columns[] = {BINTOLAGE_COLUMN_DOUBLE, BINTOLAGE_COLUMN_USHORT, BINTOLAGE_COLUMN_STRING};
 static const char *const names[] = {"depth", "slope", "crew"};
+static const char crew[] = "Jensen, Søren";
 
-typedef struct {
-    double x, y;
-} pair;
-
-static const pair edge[] = {{0, 0}, {400, 0}, {400, 250}, {0, 250}, {0, 0}};
-static const pair main_pipe[] = {{50, 40}, {50, 60}, {350, 60}, {350, 40}, {50, 40}};
-static const pair well[] = {{200, 150}, {210, 160}, {190, 160}, {200, 150}};
+static const double edge[][2] = {{0, 0}, {400, 0}, {400, 250}, {0, 250}, {0, 0}};
+static const double main_pipe[][2] = {{50, 40}, {50, 60}, {350, 60}, {350, 40}, {50, 40}};
+static const double well[][2] = {{200, 150}, {210, 160}, {190, 160}, {200, 150}};
 
 static void must(const char *call, uint8_t answer)
 {
     if (answer != BINTOLAGE_DONE) {
-        printf("%s: refused, %d\n", call, answer);
+        printf("%s: refused with %d, %s\n", call, answer, bintolage_refusal(answer));
         exit(1);
     }
 }
 
-static void put32(uint8_t *at, uint32_t number)
+static void give(bintolage_event_record event)
 {
-    for (int i = 0; i < 4; i++) {
-        at[i] = (uint8_t)(number >> (8 * i));
-    }
+    must("give", bintolage_give(&state, &memory, event));
 }
 
-static void put64(uint8_t *at, uint64_t number)
+static void give_ring(uint32_t idx, const double pairs[][2], uint32_t count)
 {
-    for (int i = 0; i < 8; i++) {
-        at[i] = (uint8_t)(number >> (8 * i));
-    }
-}
-
-static uint32_t get32(const uint8_t *at)
-{
-    return at[0] | (uint32_t)at[1] << 8 | (uint32_t)at[2] << 16 | (uint32_t)at[3] << 24;
-}
-
-static uint64_t get64(const uint8_t *at)
-{
-    return get32(at) | (uint64_t)get32(at + 4) << 32;
-}
-
-static uint64_t bits_of(double number)
-{
-    uint64_t bits;
-    memcpy(&bits, &number, 8);
-    return bits;
-}
-
-static double double_of(uint64_t bits)
-{
-    double number;
-    memcpy(&number, &bits, 8);
-    return number;
-}
-
-static void say(uint8_t kind, uint8_t tagged, uint32_t size, uint32_t idx, pair p)
-{
-    uint8_t event[BINTOLAGE_EVENT_BYTES] = {0};
-    event[0] = kind;
-    event[1] = tagged;
-    put32(event + 4, size);
-    put32(event + 8, idx);
-    put64(event + 16, bits_of(p.x));
-    put64(event + 24, bits_of(p.y));
-    must("event", bintolage_event(&state, event, sizeof event, table, sizeof table, POOLS));
-}
-
-static const pair nowhere = {0, 0};
-
-static void say_ring(uint32_t idx, const pair *pairs, uint32_t count)
-{
-    say(BINTOLAGE_LINE_STRING, 0, count, idx, nowhere);
+    give(bintolage_begin(BINTOLAGE_LINE_STRING, 0, count, idx));
     for (uint32_t i = 0; i < count; i++) {
-        say(BINTOLAGE_XY, 0, 0, i, pairs[i]);
+        give(bintolage_xy(pairs[i][0], pairs[i][1], i));
     }
-    say(BINTOLAGE_LINE_STRING + BINTOLAGE_END, 0, 0, idx, nowhere);
+    give(bintolage_end(BINTOLAGE_LINE_STRING, 0, idx));
 }
 
-static void write_field(void)
+static void give_field(void)
 {
-    say(BINTOLAGE_POLYGON, 1, 3, 0, nowhere);
-    say_ring(0, edge, 5);
-    say_ring(1, main_pipe, 5);
-    say_ring(2, well, 4);
-    say(BINTOLAGE_POLYGON + BINTOLAGE_END, 1, 0, 0, nowhere);
+    give(bintolage_begin(BINTOLAGE_POLYGON, 1, 3, 0));
+    give_ring(0, edge, 5);
+    give_ring(1, main_pipe, 5);
+    give_ring(2, well, 4);
+    give(bintolage_end(BINTOLAGE_POLYGON, 1, 0));
 }
 
-static void write_property(uint32_t column, uint64_t bits, const char *text)
+static void give_properties(void)
 {
-    must("property", bintolage_property(&state, column, columns[column], bits, (const uint8_t *)text, strlen(text),
-                                        properties, sizeof properties));
+    must("depth", bintolage_give_number(&state, &memory, 0, columns[0], bintolage_bits_of(1.15)));
+    must("slope", bintolage_give_number(&state, &memory, 1, columns[1], 3));
+    must("crew", bintolage_give_text(&state, &memory, 2, columns[2], crew, sizeof crew - 1));
 }
 
-static void print_event(const uint8_t *event)
+static void print_event(bintolage_event_fields e)
 {
-    switch (event[0]) {
-    case BINTOLAGE_POLYGON:
-        printf("polygon of %u rings\n", get32(event + 4));
-        break;
-    case BINTOLAGE_LINE_STRING:
-        printf("  ring %u, %u pairs\n", get32(event + 8), get32(event + 4));
-        break;
-    case BINTOLAGE_XY:
-        printf("    %.1f %.1f\n", double_of(get64(event + 16)), double_of(get64(event + 24)));
-        break;
-    case BINTOLAGE_LINE_STRING + BINTOLAGE_END:
-        printf("  end of ring %u\n", get32(event + 8));
-        break;
-    case BINTOLAGE_POLYGON + BINTOLAGE_END:
-        printf("end of polygon\n");
-        break;
+    switch (e.kind) {
+    case BINTOLAGE_POLYGON: printf("polygon of %u rings\n", e.size); break;
+    case BINTOLAGE_LINE_STRING: printf("  ring %u, %u pairs\n", e.idx, e.size); break;
+    case BINTOLAGE_XY: printf("    %.1f %.1f\n", e.x, e.y); break;
+    case BINTOLAGE_LINE_STRING + BINTOLAGE_END: printf("  end of ring %u\n", e.idx); break;
+    case BINTOLAGE_POLYGON + BINTOLAGE_END: printf("end of polygon\n"); break;
     }
 }
 
 static void print_field(void)
 {
     uint32_t count;
-    uint64_t edges[4];
-    must("read", bintolage_read(table, sizeof table, POOLS, BINTOLAGE_POLYGON, 0, events, sizeof events, &count));
+    bintolage_edges box;
+    must("read", bintolage_read_feature(&memory, BINTOLAGE_POLYGON, 0, events, 64, &count));
     for (uint32_t i = 0; i < count; i++) {
-        print_event(events + i * BINTOLAGE_EVENT_BYTES);
+        print_event(bintolage_event_of(&events[i]));
     }
-    must("box", bintolage_box(table, sizeof table, POOLS, 0, edges));
-    printf("box %.1f %.1f to %.1f %.1f\n", double_of(edges[0]), double_of(edges[1]), double_of(edges[2]), double_of(edges[3]));
+    must("box", bintolage_read_box(&memory, 0, &box));
+    printf("box %.1f %.1f to %.1f %.1f\n", box.least_x, box.least_y, box.greatest_x, box.greatest_y);
 }
 
-static void print_value(const uint8_t *value)
+static void print_value(bintolage_value_fields v)
 {
-    uint32_t column = value[0] | (uint32_t)value[1] << 8;
-    uint64_t word = get64(value + 8);
-    printf("%s: ", names[column]);
-    if (value[2] == BINTOLAGE_COLUMN_DOUBLE) {
-        printf("%.2f\n", double_of(word));
-    } else if (value[2] == BINTOLAGE_COLUMN_STRING) {
-        printf("%.*s\n", (int)get32(value + 4), (const char *)properties + word);
-    } else {
-        printf("%u\n", (unsigned)word);
+    printf("%s: ", names[v.column]);
+    switch (v.column_type) {
+    case BINTOLAGE_COLUMN_DOUBLE: printf("%.2f\n", bintolage_double_of(v.word)); break;
+    case BINTOLAGE_COLUMN_STRING: printf("%.*s\n", (int)v.length, (const char *)properties + v.word); break;
+    default: printf("%u\n", (unsigned)v.word);
     }
 }
 
 static void print_properties(void)
 {
     uint32_t count;
-    uint8_t stopped;
-    must("read_properties", bintolage_read_properties(properties, state.words[2], 1, columns, sizeof columns, 65536, values,
-                                                      sizeof values, &count, &stopped));
+    must("values", bintolage_read_values(&state, &memory, columns, sizeof columns, values, 8, &count));
     for (uint32_t i = 0; i < count; i++) {
-        print_value(values + i * BINTOLAGE_VALUE_BYTES);
+        print_value(bintolage_value_of(&values[i]));
     }
 }
 
 int main(void)
 {
-    bintolage_start(BINTOLAGE_POLYGON, 0, 0, &state);
-    write_field();
-    write_property(0, bits_of(1.15), "");
-    write_property(1, 3, "");
-    write_property(2, 0, "Jensen, Søren");
-    must("finish", bintolage_finish(&state, table, sizeof table, POOLS));
+    bintolage_start(&state, BINTOLAGE_POLYGON, 0, 0);
+    give_field();
+    give_properties();
+    must("finish", bintolage_finish_feature(&state, &memory));
     print_field();
     print_properties();
-    must("next", bintolage_next(&state, table, sizeof table, POOLS));
+    must("next", bintolage_next_feature(&state, &memory));
     return 0;
 }

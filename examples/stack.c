@@ -30,7 +30,7 @@ static uint64_t edges[4];
 
 #define POOLS xy, 64, ends, 32, z, 32, m, 32, t, 32, tm, 32
 
-static void start(void) { bintolage_start(BINTOLAGE_POLYGON, 1, 1, &state); }
+static void start(void) { bintolage_start(&state, BINTOLAGE_POLYGON, 1, 1); }
 static void take(void) { bintolage_event(&state, event, sizeof event, table, sizeof table, POOLS); }
 static void take_many(void) { bintolage_events(&state, event, sizeof event, table, sizeof table, POOLS, &taken); }
 static void property(void) { bintolage_property(&state, 0, BINTOLAGE_COLUMN_STRING, 0, text, sizeof text, buffer, sizeof buffer); }
@@ -39,7 +39,8 @@ static void next(void) { bintolage_next(&state, table, sizeof table, POOLS); }
 static void read_tree(void) { bintolage_read(table, sizeof table, POOLS, 0, 15, records, sizeof records, &count); }
 static void read_properties(void)
 {
-    bintolage_read_properties(buffer, state.words[2], 1, columns, sizeof columns, 65536, records, sizeof records, &count, &stopped);
+    bintolage_read_properties(buffer, state.words[2], 1, columns, sizeof columns, BINTOLAGE_NO_STOP, records, sizeof records,
+                              &count, &stopped);
 }
 static void box(void) { bintolage_box(table, sizeof table, POOLS, 0, edges); }
 
@@ -72,18 +73,11 @@ static long depth(void (*made)(void))
     return (long)(top - low);
 }
 
-static void put32(uint8_t *at, uint32_t number)
-{
-    for (int i = 0; i < 4; i++) {
-        at[i] = (uint8_t)(number >> (8 * i));
-    }
-}
-
 static void put_list(uint8_t *record, int lane, uint32_t first, uint32_t length)
 {
     record[1] |= (uint8_t)(1 << lane);
-    put32(record + 4 + 8 * lane, first);
-    put32(record + 8 + 8 * lane, length);
+    bintolage_put32(record + 4 + 8 * lane, first);
+    bintolage_put32(record + 8 + 8 * lane, length);
 }
 
 /* Records 0 to 14 are collections of one part; record 15, at level 16, has every list but parts, and so many ends. */
@@ -109,7 +103,7 @@ static long deepest_read(int *deepest)
 {
     long most = 0;
     for (int i = 0; i < 3 * 256; i++) {
-        nest((uint8_t)(i / 3), i % 3);
+        nest((uint8_t)(i / 3), (uint32_t)(i % 3));
         long d = depth(read_tree);
         if (d > most) {
             most = d;
@@ -124,7 +118,7 @@ static long deepest_event(void (*made)(void))
 {
     long most = 0;
     for (int kind = 0; kind < 256; kind++) {
-        bintolage_start(BINTOLAGE_GEOMETRY_COLLECTION, 0, 0, &state);
+        bintolage_start(&state, BINTOLAGE_GEOMETRY_COLLECTION, 0, 0);
         memset(event, 0, sizeof event);
         event[0] = BINTOLAGE_GEOMETRY_COLLECTION;
         take();

@@ -11,12 +11,35 @@
  * time of one call. It never blocks, and every call ends. Calls on different memory may run at the same time.
  *
  *
+ * A PIPE RUN, WRITTEN AND READ BACK
+ *
+ *     uint8_t table[BINTOLAGE_GEOMETRY_BYTES];
+ *     uint64_t xy[4];
+ *     bintolage_memory memory = {.table = table, .table_bytes = sizeof table, .xy = xy, .xy_words = 4};
+ *     bintolage_event_record log[4];
+ *     uint32_t count;
+ *     bintolage_state state;
+ *     bintolage_start(&state, BINTOLAGE_LINE_STRING, 0, 0);
+ *     must(bintolage_give(&state, &memory, bintolage_begin(BINTOLAGE_LINE_STRING, 1, 2, 0)));
+ *     must(bintolage_give(&state, &memory, bintolage_xy(350, 200, 0)));
+ *     must(bintolage_give(&state, &memory, bintolage_xy(350, 20.5, 1)));
+ *     must(bintolage_give(&state, &memory, bintolage_end(BINTOLAGE_LINE_STRING, 1, 0)));
+ *     must(bintolage_finish_feature(&state, &memory));
+ *     must(bintolage_read_feature(&memory, BINTOLAGE_LINE_STRING, 0, log, 4, &count));
+ *     must(bintolage_next_feature(&state, &memory));
+ *
+ * `log` has the four events again. must() is the program's own: it looks at each answer, which is 0 or a refusal, and
+ * bintolage_refusal has it in words. The calls that are proved come first in this file, each list as two arguments; behind
+ * them, FOR A C PROGRAM, stands a thin layer of inline functions over them, in which the lines above are written.
+ *
+ *
  * HOW MEMORY IS LENT
  *
  * A list is lent as two arguments: a pointer to its first element, and how many ELEMENTS (not bytes) there are. Every call
  * accepts every count and any contents. The caller sees to this:
  *
- *   - a pointer is not null, even where the count is 0, and is aligned for its element (8 for uint64_t, 4 for uint32_t);
+ *   - a pointer is not null, even where the count is 0 (the inline layer sees to this for its caller), and is aligned for
+ *     its element (8 for uint64_t, 4 for uint32_t);
  *   - as many elements as the count says can be read, and written where the pointer is not const;
  *   - what one call may write overlaps nothing else that the same call is lent.
  *
@@ -44,6 +67,7 @@
 
 #include <stddef.h>
 #include <stdint.h>
+#include <string.h>
 
 #ifdef __cplusplus
 extern "C" {
@@ -216,7 +240,7 @@ typedef struct bintolage_state {
  * first type that is seen becomes the declared type; with `promote` a LineString may go into a MultiLineString and a
  * Polygon into a MultiPolygon. For both, 0 is no and all else is yes.
  */
-void bintolage_start(uint8_t declared, uint8_t detect, uint8_t promote, bintolage_state *state);
+void bintolage_start(bintolage_state *state, uint8_t declared, uint8_t detect, uint8_t promote);
 
 /*
  * Takes one event record. Refused: 11, 15, 5, 12.
@@ -257,7 +281,7 @@ uint8_t bintolage_events(
  */
 uint8_t bintolage_property(
     bintolage_state *state,
-    uint32_t column, uint8_t type, uint64_t bits,
+    uint32_t column, uint8_t column_type, uint64_t bits,
     const uint8_t *text, size_t text_bytes,
     uint8_t *buffer, size_t buffer_bytes);
 
@@ -307,6 +331,9 @@ uint8_t bintolage_read(
     uint8_t *log, size_t log_bytes,
     uint32_t *count);
 
+/* No column's number: with it as `stop` bintolage_read_properties reads on to the end. */
+#define BINTOLAGE_NO_STOP         65536
+
 /*
  * Reads property bytes, as value records from the start of `log`, and says in `count` how many, refused or not. `columns`
  * has the type of each column; with `has_columns` 0 it is not looked at and nothing is read. A column of a type above 14
@@ -336,6 +363,403 @@ uint8_t bintolage_box(
     const uint64_t *tm, size_t tm_words,
     uint32_t n,
     uint64_t edges[4]);
+
+/*
+ * FOR A C PROGRAM
+ *
+ * What follows is inline, in this header alone, over the calls above: it has no memory of its own and decides nothing; it
+ * hands a struct's lists on, lays records down and takes them apart. Records are read and written byte by byte, so any
+ * byte order and any address will do. A double is IEEE 754's of 64 bits.
+ *
+ *     a record of an event       bintolage_begin, bintolage_end, bintolage_xy, bintolage_coordinate
+ *     what a record says         bintolage_event_of, bintolage_value_of
+ *     a feature written          bintolage_start, then bintolage_give, bintolage_give_many, bintolage_give_number,
+ *                                bintolage_give_text, bintolage_finish_feature, bintolage_next_feature
+ *     a feature read             bintolage_read_feature, bintolage_read_values, bintolage_read_box
+ *     an answer in words         bintolage_refusal
+ */
+
+/*
+ * What is lent: the table, the six pools and the property buffer, each with its count of elements, as the calls above take
+ * them. A null pointer lends nothing, whatever its count says, so what a program does not use may be left zero.
+ */
+typedef struct bintolage_memory {
+    uint8_t *table;
+    size_t table_bytes;
+    uint64_t *xy;
+    size_t xy_words;
+    uint32_t *ends;
+    size_t ends_words;
+    uint64_t *z;
+    size_t z_words;
+    uint64_t *m;
+    size_t m_words;
+    uint64_t *t;
+    size_t t_words;
+    uint64_t *tm;
+    size_t tm_words;
+    uint8_t *properties;
+    size_t properties_bytes;
+} bintolage_memory;
+
+/* The records of a log, or of events to come. An array of them has nothing between its records. */
+typedef struct bintolage_event_record {
+    uint8_t bytes[BINTOLAGE_EVENT_BYTES];
+} bintolage_event_record;
+
+typedef struct bintolage_value_record {
+    uint8_t bytes[BINTOLAGE_VALUE_BYTES];
+} bintolage_value_record;
+
+/* A compiler that lays these out otherwise stops here. */
+typedef char bintolage_event_record_is_its_bytes[sizeof(bintolage_event_record) == BINTOLAGE_EVENT_BYTES ? 1 : -1];
+typedef char bintolage_value_record_is_its_bytes[sizeof(bintolage_value_record) == BINTOLAGE_VALUE_BYTES ? 1 : -1];
+typedef char bintolage_double_is_a_word[sizeof(double) == sizeof(uint64_t) && sizeof(float) == sizeof(uint32_t) ? 1 : -1];
+
+/*
+ * Numbers in records: least byte first, at any address.
+ */
+static inline void bintolage_put32(uint8_t *at, uint32_t number)
+{
+    for (int i = 0; i < 4; i++) {
+        at[i] = (uint8_t)(number >> (8 * i));
+    }
+}
+
+static inline void bintolage_put64(uint8_t *at, uint64_t number)
+{
+    bintolage_put32(at, (uint32_t)number);
+    bintolage_put32(at + 4, (uint32_t)(number >> 32));
+}
+
+static inline uint32_t bintolage_get32(const uint8_t *at)
+{
+    return (uint32_t)at[0] | (uint32_t)at[1] << 8 | (uint32_t)at[2] << 16 | (uint32_t)at[3] << 24;
+}
+
+static inline uint64_t bintolage_get64(const uint8_t *at)
+{
+    return bintolage_get32(at) | (uint64_t)bintolage_get32(at + 4) << 32;
+}
+
+/*
+ * A double's or a float's bits, as the pools and a property have them, and back.
+ */
+static inline uint64_t bintolage_bits_of(double number)
+{
+    uint64_t bits;
+    memcpy(&bits, &number, sizeof bits);
+    return bits;
+}
+
+static inline double bintolage_double_of(uint64_t bits)
+{
+    double number;
+    memcpy(&number, &bits, sizeof number);
+    return number;
+}
+
+static inline uint64_t bintolage_bits_of_float(float number)
+{
+    uint32_t bits;
+    memcpy(&bits, &number, sizeof bits);
+    return bits;
+}
+
+static inline float bintolage_float_of(uint64_t bits)
+{
+    const uint32_t low = (uint32_t)bits;
+    float number;
+    memcpy(&number, &low, sizeof number);
+    return number;
+}
+
+/*
+ * The record of a begin. `size` is how many lines, rings, pairs or parts follow, and 0 for a Point; `idx` is its number
+ * within what holds it. `tagged` says of a LineString, Polygon or Triangle that it stands by itself or in a collection, 0
+ * is no and all else yes; it is 0 for all other types. Other values make a record that is refused as malformed (11).
+ */
+static inline bintolage_event_record bintolage_begin(uint8_t geometry_type, uint8_t tagged, uint32_t size, uint32_t idx)
+{
+    bintolage_event_record record = {{0}};
+    record.bytes[0] = geometry_type;
+    record.bytes[1] = tagged != 0;
+    bintolage_put32(record.bytes + 4, size);
+    bintolage_put32(record.bytes + 8, idx);
+    return record;
+}
+
+/* The record of an end: its type, `tagged` and `idx` as its begin has them. */
+static inline bintolage_event_record bintolage_end(uint8_t geometry_type, uint8_t tagged, uint32_t idx)
+{
+    return bintolage_begin((uint8_t)(geometry_type + BINTOLAGE_END), tagged, 0, idx);
+}
+
+/* The record of a pair. */
+static inline bintolage_event_record bintolage_xy(double x, double y, uint32_t idx)
+{
+    bintolage_event_record record = bintolage_begin(BINTOLAGE_XY, 0, 0, idx);
+    bintolage_put64(record.bytes + 16, bintolage_bits_of(x));
+    bintolage_put64(record.bytes + 24, bintolage_bits_of(y));
+    return record;
+}
+
+/*
+ * The record of a pair with those of z, m, t and tm that `present` names (BINTOLAGE_Z, ...). One that it does not name is
+ * not looked at; a bit of `present` beyond the four makes a record that is refused as malformed (11).
+ */
+static inline bintolage_event_record bintolage_coordinate(
+    double x, double y, uint8_t present, double z, double m, double t, uint64_t tm, uint32_t idx)
+{
+    bintolage_event_record record = bintolage_xy(x, y, idx);
+    record.bytes[0] = BINTOLAGE_COORDINATE;
+    record.bytes[2] = present;
+    bintolage_put64(record.bytes + 32, present & BINTOLAGE_Z ? bintolage_bits_of(z) : 0);
+    bintolage_put64(record.bytes + 40, present & BINTOLAGE_M ? bintolage_bits_of(m) : 0);
+    bintolage_put64(record.bytes + 48, present & BINTOLAGE_T ? bintolage_bits_of(t) : 0);
+    bintolage_put64(record.bytes + 56, present & BINTOLAGE_TM ? tm : 0);
+    return record;
+}
+
+/* What an event record says ("Event record", above). What its kind does not use is zero. */
+typedef struct bintolage_event_fields {
+    uint8_t kind;
+    uint8_t tagged;
+    uint8_t present;
+    uint32_t size;
+    uint32_t idx;
+    double x, y, z, m, t;
+    uint64_t tm;
+} bintolage_event_fields;
+
+static inline bintolage_event_fields bintolage_event_of(const bintolage_event_record *record)
+{
+    const uint8_t *bytes = record->bytes;
+    bintolage_event_fields fields;
+    fields.kind = bytes[0];
+    fields.tagged = bytes[1];
+    fields.present = bytes[2];
+    fields.size = bintolage_get32(bytes + 4);
+    fields.idx = bintolage_get32(bytes + 8);
+    fields.x = bintolage_double_of(bintolage_get64(bytes + 16));
+    fields.y = bintolage_double_of(bintolage_get64(bytes + 24));
+    fields.z = bintolage_double_of(bintolage_get64(bytes + 32));
+    fields.m = bintolage_double_of(bintolage_get64(bytes + 40));
+    fields.t = bintolage_double_of(bintolage_get64(bytes + 48));
+    fields.tm = bintolage_get64(bytes + 56);
+    return fields;
+}
+
+/*
+ * What a value record says ("Value record", above). `word` is a number's bits: cast it to the type of the column's width
+ * for a negative one, (int16_t)word, or give it to bintolage_double_of or bintolage_float_of. For types 11 to 14 it is the
+ * place where the text's `length` bytes start within the property bytes; no zero byte ends them.
+ */
+typedef struct bintolage_value_fields {
+    uint16_t column;
+    uint8_t column_type;
+    uint32_t length;
+    uint64_t word;
+} bintolage_value_fields;
+
+static inline bintolage_value_fields bintolage_value_of(const bintolage_value_record *record)
+{
+    const uint8_t *bytes = record->bytes;
+    bintolage_value_fields fields;
+    fields.column = (uint16_t)(bytes[0] | bytes[1] << 8);
+    fields.column_type = bytes[2];
+    fields.length = bintolage_get32(bytes + 4);
+    fields.word = bintolage_get64(bytes + 8);
+    return fields;
+}
+
+/* How many parts the feature in hand has, and how many property bytes. */
+static inline uint32_t bintolage_parts(const bintolage_state *state)
+{
+    return state->words[1];
+}
+
+static inline uint32_t bintolage_property_bytes(const bintolage_state *state)
+{
+    return state->words[2];
+}
+
+/*
+ * The same memory with no null pointer in it: where there was one, it lends no element of `nothing`.
+ */
+static inline bintolage_memory bintolage_without_nulls(const bintolage_memory *memory, uint64_t *nothing)
+{
+    bintolage_memory lent = *memory;
+    if (!lent.table) { lent.table = (uint8_t *)nothing; lent.table_bytes = 0; }
+    if (!lent.xy) { lent.xy = nothing; lent.xy_words = 0; }
+    if (!lent.ends) { lent.ends = (uint32_t *)nothing; lent.ends_words = 0; }
+    if (!lent.z) { lent.z = nothing; lent.z_words = 0; }
+    if (!lent.m) { lent.m = nothing; lent.m_words = 0; }
+    if (!lent.t) { lent.t = nothing; lent.t_words = 0; }
+    if (!lent.tm) { lent.tm = nothing; lent.tm_words = 0; }
+    if (!lent.properties) { lent.properties = (uint8_t *)nothing; lent.properties_bytes = 0; }
+    return lent;
+}
+
+#define BINTOLAGE_LISTS(lent) \
+    (lent).table, (lent).table_bytes, (lent).xy, (lent).xy_words, (lent).ends, (lent).ends_words, (lent).z, (lent).z_words, \
+    (lent).m, (lent).m_words, (lent).t, (lent).t_words, (lent).tm, (lent).tm_words
+
+/* Gives the writer one event. Refused: 11, 15, 5, 12. */
+static inline uint8_t bintolage_give(bintolage_state *state, const bintolage_memory *memory, bintolage_event_record event)
+{
+    uint64_t nothing = 0;
+    const bintolage_memory lent = bintolage_without_nulls(memory, &nothing);
+    return bintolage_event(state, event.bytes, sizeof event.bytes, BINTOLAGE_LISTS(lent));
+}
+
+/*
+ * Gives the writer `count` events one after the other, until one is refused: *taken is how many were taken, refused or
+ * not. Refused: 11, 15, 5, 12.
+ */
+static inline uint8_t bintolage_give_many(
+    bintolage_state *state, const bintolage_memory *memory,
+    const bintolage_event_record *events, size_t count,
+    size_t *taken)
+{
+    uint64_t nothing = 0;
+    const bintolage_memory lent = bintolage_without_nulls(memory, &nothing);
+    const uint8_t *bytes = events ? (const uint8_t *)events : (const uint8_t *)&nothing;
+    return bintolage_events(state, bytes, events ? count * sizeof *events : 0, BINTOLAGE_LISTS(lent), taken);
+}
+
+/* No column's type: in its place a type that the call is not for is refused as malformed (11), when its turn comes. */
+#define BINTOLAGE_NO_TYPE 255
+
+/*
+ * Gives the writer a property of a type from 0 to 10, a number, by its bits: the low bytes, higher bytes zero. A negative
+ * one is cast to the unsigned type of the column's width, (uint16_t)-3, and a double is given by bintolage_bits_of.
+ * Refused: 15, 16, 11, 12.
+ */
+static inline uint8_t bintolage_give_number(
+    bintolage_state *state, const bintolage_memory *memory, uint32_t column, uint8_t column_type, uint64_t bits)
+{
+    uint64_t nothing = 0;
+    const bintolage_memory lent = bintolage_without_nulls(memory, &nothing);
+    const uint8_t type = column_type < BINTOLAGE_COLUMN_STRING ? column_type : BINTOLAGE_NO_TYPE;
+    return bintolage_property(
+        state, column, type, bits, (const uint8_t *)&nothing, 0, lent.properties, lent.properties_bytes);
+}
+
+/* Gives the writer a property of a type from 11 to 14: a text, or any bytes for Binary. Refused: 15, 16, 11, 6, 12. */
+static inline uint8_t bintolage_give_text(
+    bintolage_state *state, const bintolage_memory *memory, uint32_t column, uint8_t column_type,
+    const void *text, size_t text_bytes)
+{
+    uint64_t nothing = 0;
+    const bintolage_memory lent = bintolage_without_nulls(memory, &nothing);
+    const uint8_t type = column_type < BINTOLAGE_COLUMN_STRING ? BINTOLAGE_NO_TYPE : column_type;
+    const uint8_t *bytes = (const uint8_t *)(text ? text : &nothing);
+    return bintolage_property(
+        state, column, type, 0, bytes, text ? text_bytes : 0, lent.properties, lent.properties_bytes);
+}
+
+/* Ends the feature, which then waits. Its tree stands in the table and the pools. Refused: 15, 12. */
+static inline uint8_t bintolage_finish_feature(bintolage_state *state, const bintolage_memory *memory)
+{
+    uint64_t nothing = 0;
+    const bintolage_memory lent = bintolage_without_nulls(memory, &nothing);
+    return bintolage_finish(state, BINTOLAGE_LISTS(lent));
+}
+
+/* Leaves the finished feature behind, and the next may begin. Refused: 15, 12. */
+static inline uint8_t bintolage_next_feature(bintolage_state *state, const bintolage_memory *memory)
+{
+    uint64_t nothing = 0;
+    const bintolage_memory lent = bintolage_without_nulls(memory, &nothing);
+    return bintolage_next(state, BINTOLAGE_LISTS(lent));
+}
+
+/*
+ * Reads the tree whose root is record 0 as events, into the `log_records` records of `log`, and says in *count how many,
+ * refused or not; `declared` and `flags` as for bintolage_read. Refused: 1, 2, 3, 4, 7, 8, 9, 10, 13.
+ */
+static inline uint8_t bintolage_read_feature(
+    const bintolage_memory *memory, uint8_t declared, uint8_t flags,
+    bintolage_event_record *log, size_t log_records,
+    uint32_t *count)
+{
+    uint64_t nothing = 0;
+    const bintolage_memory lent = bintolage_without_nulls(memory, &nothing);
+    uint8_t *bytes = log ? (uint8_t *)log : (uint8_t *)&nothing;
+    return bintolage_read(BINTOLAGE_LISTS(lent), declared, flags, bytes, log ? log_records * sizeof *log : 0, count);
+}
+
+/*
+ * Reads the properties of the feature in hand as values, into the `log_records` records of `log`, and says in *count how
+ * many, refused or not. `columns` has the type of each column. Refused: 2, 14, 6, 9.
+ */
+static inline uint8_t bintolage_read_values(
+    const bintolage_state *state, const bintolage_memory *memory,
+    const uint8_t *columns, size_t columns_count,
+    bintolage_value_record *log, size_t log_records,
+    uint32_t *count)
+{
+    uint64_t nothing = 0;
+    uint8_t stopped;
+    const bintolage_memory lent = bintolage_without_nulls(memory, &nothing);
+    const size_t used = bintolage_property_bytes(state);
+    const uint8_t *types = columns ? columns : (const uint8_t *)&nothing;
+    uint8_t *bytes = log ? (uint8_t *)log : (uint8_t *)&nothing;
+    return bintolage_read_properties(
+        lent.properties, used < lent.properties_bytes ? used : lent.properties_bytes,
+        1, types, columns ? columns_count : 0,
+        BINTOLAGE_NO_STOP,
+        bytes, log ? log_records * sizeof *log : 0,
+        count, &stopped);
+}
+
+/* The edges of a box. */
+typedef struct bintolage_edges {
+    double least_x, least_y, greatest_x, greatest_y;
+} bintolage_edges;
+
+/* The box around the xy list that record `n` itself has; refused, the box that every box begins with. Refused: 10. */
+static inline uint8_t bintolage_read_box(const bintolage_memory *memory, uint32_t n, bintolage_edges *edges)
+{
+    uint64_t nothing = 0;
+    uint64_t bits[4];
+    const bintolage_memory lent = bintolage_without_nulls(memory, &nothing);
+    const uint8_t answer = bintolage_box(BINTOLAGE_LISTS(lent), n, bits);
+    edges->least_x = bintolage_double_of(bits[0]);
+    edges->least_y = bintolage_double_of(bits[1]);
+    edges->greatest_x = bintolage_double_of(bits[2]);
+    edges->greatest_y = bintolage_double_of(bits[3]);
+    return answer;
+}
+
+#undef BINTOLAGE_LISTS
+#undef BINTOLAGE_NO_TYPE
+
+/* An answer in words. 2 is said of a tree, and of property bytes. */
+static inline const char *bintolage_refusal(uint8_t number)
+{
+    switch (number) {
+    case BINTOLAGE_DONE: return "done";
+    case BINTOLAGE_XY_ABSENT: return "a list of coordinates is absent";
+    case BINTOLAGE_PARTS_ABSENT: return "a list of parts is absent, or the column is not below the column count";
+    case BINTOLAGE_TYPE_UNKNOWN: return "unknown geometry type";
+    case BINTOLAGE_TYPE_NOT_A_CURVE: return "a type that does not belong in a curve";
+    case BINTOLAGE_TYPES_MIXED: return "types mixed";
+    case BINTOLAGE_NOT_UTF8: return "text that is not UTF-8";
+    case BINTOLAGE_PAST_LIST: return "a coordinate or value past its list";
+    case BINTOLAGE_BAD_END: return "an end of 2^31 or more, or below the one before";
+    case BINTOLAGE_LOG_FULL: return "the log is full";
+    case BINTOLAGE_BAD_RECORD: return "a bad geometry record or table";
+    case BINTOLAGE_MALFORMED: return "a malformed event or value";
+    case BINTOLAGE_NO_ROOM: return "no room";
+    case BINTOLAGE_TOO_DEEP: return "a part at level 17";
+    case BINTOLAGE_VALUE_CUT: return "a property value cut short";
+    case BINTOLAGE_NOT_ITS_TURN: return "not this call's turn";
+    case BINTOLAGE_COLUMN_TOO_LARGE: return "a column above 65,535";
+    default: return "a number that no call answers";
+    }
+}
 
 #ifdef __cplusplus
 }

@@ -27,7 +27,7 @@ impl Lists {
 impl Port {
     pub fn new(declared: u8) -> Port {
         let mut state = [0; STATE_WORDS];
-        bare::start(declared, false, false, &mut state);
+        bare::start(&mut state, declared, false, false);
         let lists = Lists {
             table: vec![0; GEOMETRY_BYTES * MOST_RECORDS],
             xy: vec![0; MOST_WORDS[0]],
@@ -47,8 +47,8 @@ impl Port {
         bare::events(&mut self.state, events, &mut self.lists.lend(), &mut taken)
     }
 
-    pub fn property(&mut self, column: u32, kind: u8, bits: u64, text: &[u8]) -> u8 {
-        bare::property(&mut self.state, column, kind, bits, text, &mut self.properties)
+    pub fn property(&mut self, column: u32, column_type: u8, bits: u64, text: &[u8]) -> u8 {
+        bare::property(&mut self.state, column, column_type, bits, text, &mut self.properties)
     }
 
     pub fn finish(&mut self) -> u8 {

@@ -24,9 +24,9 @@ macro_rules! with_lists {
 }
 
 #[inline]
-pub fn start(declared: u8, detect: bool, promote: bool, state: &mut StateWords) {
+pub fn start(state: &mut StateWords, declared: u8, detect: bool, promote: bool) {
     // SAFETY: a state's words are lent.
-    unsafe { link::bintolage_start(declared, detect as u8, promote as u8, state) }
+    unsafe { link::bintolage_start(state, declared, detect as u8, promote as u8) }
 }
 
 #[inline]
@@ -40,12 +40,12 @@ pub fn events(state: &mut StateWords, events: &[u8], memory: &mut Memory, taken:
 }
 
 #[inline]
-pub fn property(state: &mut StateWords, column: u32, kind: u8, bits: u64, text: &[u8], buffer: &mut [u8]) -> u8 {
+pub fn property(state: &mut StateWords, column: u32, column_type: u8, bits: u64, text: &[u8], buffer: &mut [u8]) -> u8 {
     // SAFETY: every pointer and count is a slice's, and what is written is borrowed by `&mut`.
     unsafe {
         link::bintolage_property(
             state,
-            column, kind, bits,
+            column, column_type, bits,
             text.as_ptr(), text.len(),
             buffer.as_mut_ptr(), buffer.len(),
         )

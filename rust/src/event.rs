@@ -28,17 +28,42 @@ pub struct Event {
 }
 
 impl Event {
-    /// `size` is 0 for a Point, `tagged` is false for all but LineString, Polygon and Triangle.
+    /// A geometry's begin. `size` is how many lines, rings, pairs or parts follow, and 0 for a Point; `tagged` says of a
+    /// LineString, Polygon or Triangle that it stands by itself or in a collection, and is false for all other types.
     pub fn begin(geometry_type: u8, tagged: bool, size: u32, idx: u32) -> Event {
         Event { kind: geometry_type, tagged, size, idx, ..Event::default() }
     }
 
+    /// Its end, with `tagged` and `idx` as its begin has them.
     pub fn end(geometry_type: u8, tagged: bool, idx: u32) -> Event {
         Event { kind: geometry_type.wrapping_add(END), tagged, idx, ..Event::default() }
     }
 
+    /// A pair.
     pub fn xy(x: f64, y: f64, idx: u32) -> Event {
         Event { kind: XY, idx, x: x.to_bits(), y: y.to_bits(), ..Event::default() }
+    }
+
+    /// A pair with those of z, m, t and tm that there are; its present bits say which.
+    pub fn coordinate(
+        x: f64,
+        y: f64,
+        z: Option<f64>,
+        m: Option<f64>,
+        t: Option<f64>,
+        tm: Option<u64>,
+        idx: u32,
+    ) -> Event {
+        let bit = |of: u8, is_there: bool| of * u8::from(is_there);
+        Event {
+            kind: COORDINATE,
+            present: bit(Z, z.is_some()) | bit(M, m.is_some()) | bit(T, t.is_some()) | bit(TM, tm.is_some()),
+            z: z.map_or(0, f64::to_bits),
+            m: m.map_or(0, f64::to_bits),
+            t: t.map_or(0, f64::to_bits),
+            tm: tm.unwrap_or(0),
+            ..Event::xy(x, y, idx)
+        }
     }
 
     /// Its 64-byte record.

@@ -3,7 +3,7 @@
 use crate::StateWords;
 
 extern "C" {
-    pub fn bintolage_start(declared: u8, detect: u8, promote: u8, state: *mut StateWords);
+    pub fn bintolage_start(state: *mut StateWords, declared: u8, detect: u8, promote: u8);
 
     pub fn bintolage_event(
         state: *mut StateWords,
@@ -32,7 +32,7 @@ extern "C" {
 
     pub fn bintolage_property(
         state: *mut StateWords,
-        column: u32, kind: u8, bits: u64,
+        column: u32, column_type: u8, bits: u64,
         text: *const u8, text_bytes: usize,
         buffer: *mut u8, buffer_bytes: usize,
     ) -> u8;

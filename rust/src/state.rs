@@ -23,7 +23,7 @@ impl State {
     /// A fresh writer's. `declared` is the type of the features to come, 0 where it is not known.
     pub fn start(declared: u8, detect: bool, promote: bool) -> State {
         let mut words = [0; STATE_WORDS];
-        bare::start(declared, detect, promote, &mut words);
+        bare::start(&mut words, declared, detect, promote);
         State { words }
     }
 
@@ -63,12 +63,12 @@ impl State {
     pub fn property(
         &mut self,
         column: u32,
-        kind: u8,
+        column_type: u8,
         bits: u64,
         text: &[u8],
         buffer: &mut [u8],
     ) -> Result<(), Refusal> {
-        Refusal::of(bare::property(&mut self.words, column, kind, bits, text, buffer))
+        Refusal::of(bare::property(&mut self.words, column, column_type, bits, text, buffer))
     }
 
     /// Lays the feature's root down, and has it wait. Refused: 15, 12.

@@ -47,8 +47,8 @@ impl<'a> Value<'a> {
 #[derive(Clone, Copy, Debug, PartialEq, Eq)]
 pub struct ValueRecord {
     pub column: u16,
-    pub kind: u8,
-    pub len: u32,
+    pub column_type: u8,
+    pub length: u32,
     pub word: u64,
 }
 
@@ -56,8 +56,8 @@ impl ValueRecord {
     pub fn from_bytes(bytes: &[u8; 16]) -> ValueRecord {
         ValueRecord {
             column: u16::from_le_bytes(bytes[0..2].try_into().unwrap()),
-            kind: bytes[2],
-            len: u32::from_le_bytes(bytes[4..8].try_into().unwrap()),
+            column_type: bytes[2],
+            length: u32::from_le_bytes(bytes[4..8].try_into().unwrap()),
             word: u64::from_le_bytes(bytes[8..16].try_into().unwrap()),
         }
     }
@@ -70,9 +70,9 @@ impl ValueRecord {
     /// The value itself, with the property bytes that it was read from; `None` with others that it does not fit.
     pub fn value<'a>(&self, properties: &'a [u8]) -> Option<Value<'a>> {
         let word = self.word;
-        let bytes = || properties.get(word as usize..)?.get(..self.len as usize);
+        let bytes = || properties.get(word as usize..)?.get(..self.length as usize);
         let text = || core::str::from_utf8(bytes()?).ok();
-        Some(match self.kind {
+        Some(match self.column_type {
             column_type::BYTE => Value::Byte(word as i8),
             column_type::UBYTE => Value::UByte(word as u8),
             column_type::BOOL => Value::Bool(word != 0),

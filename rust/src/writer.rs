@@ -30,13 +30,13 @@ impl<'a> Writer<'a> {
     }
 
     /// Takes event records of 64 bytes, until one is refused.
-    pub fn events(&mut self, records: &[u8]) -> Taken {
-        self.state.events(records, &mut self.memory)
+    pub fn events(&mut self, events: &[u8]) -> Taken {
+        self.state.events(events, &mut self.memory)
     }
 
     pub fn property(&mut self, column: u32, value: Value) -> Result<(), Refusal> {
-        let (kind, bits, text) = value.parts();
-        self.state.property(column, kind, bits, text, self.properties)
+        let (column_type, bits, text) = value.parts();
+        self.state.property(column, column_type, bits, text, self.properties)
     }
 
     /// Ends the feature, which then waits for [`Writer::next_feature`].

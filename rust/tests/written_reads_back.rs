@@ -29,8 +29,9 @@ fn a_row_of_features() {
 fn a_line_with_heights_and_a_nan_that_keeps_its_payload() {
     let mut room = Room::of(1, 8);
     let mut events = line(true, 0, &pairs(3));
-    for (i, e) in events[1..4].iter_mut().enumerate() {
-        *e = Event { kind: event::COORDINATE, present: event::Z, z: 0x7ff8_0000_0000_0001 + i as u64, ..*e };
+    for (e, i) in events[1..4].iter_mut().zip(0..) {
+        let z = f64::from_bits(0x7ff8_0000_0000_0001 + u64::from(i));
+        *e = Event::coordinate(1.0, -0.0, Some(z), None, None, None, i);
     }
     room.feature(&mut State::start(geometry_type::LINE_STRING, false, false), &events);
     assert_eq!(room.read(geometry_type::LINE_STRING, event::Z).1, events);

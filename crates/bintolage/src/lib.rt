@@ -9,9 +9,9 @@ use kinds::flags::Flags;
 ghost use mathlib.Core.Path.{_≡_};
 ghost use Rattle.laws.specs.Cut.{Said};
 ghost use Rattle.store.specs.Lists.{poolsOf, lentOf, recordWith};
-ghost use Rattle.log.specs.Log.{events};
+ghost use Rattle.log.specs.Log.{events as eventRecords};
 ghost use Rattle.store.specs.Records.{recordAt};
-ghost use Rattle.property_reader.specs.Reading.{reading, stopped};
+ghost use Rattle.property_reader.specs.Reading.{reading, stopped as stopping};
 ghost use Rattle.log.specs.Values.{values};
 ghost use Rattle.property_writer.specs.Writing.{bytesAfter};
 ghost use Rattle.reader.specs.Reading.{readS};
@@ -23,11 +23,11 @@ ghost use Rattle.writer.specs.Property.{propertyCall};
 ghost use Rattle.kinds.specs.Flags.{flagsOf};
 ghost use Rattle.bbox.specs.Edges.{edgesOf};
 ghost use Rattle.as_words.specs.Words.{stateOf, wordsOf, wordsAfter};
-ghost use Rattle.bintolage.specs.Calls.{yes, one, kept, keptOf, taken, takenOf};
+ghost use Rattle.bintolage.specs.Calls.{yes, one, kept, keptOf, taken as takenWith, takenOf};
 
 // A writer's first state. 0 is no, all else yes.
 #[no_mangle]
-pub extern "C" fn bintolage_start(declared: u8, detect: u8, promote: u8, state: &mut StateWords)
+pub extern "C" fn bintolage_start(state: &mut StateWords, declared: u8, detect: u8, promote: u8)
     ensures { λ _. ⌜ now (state .exit) ≡ wordsOf (started declared (yes detect) (yes promote)) ⌝ }
 {
     let first = words_of(writer::start(declared, detect != 0, promote != 0));
@@ -62,7 +62,7 @@ pub extern "C" fn bintolage_event(
 #[no_mangle]
 pub extern "C" fn bintolage_events(
     state: &mut StateWords,
-    records: &[u8],
+    events: &[u8],
     table: &mut [u8],
     xy: &mut [u64],
     ends: &mut [u32],
@@ -70,17 +70,17 @@ pub extern "C" fn bintolage_events(
     m: &mut [u64],
     t: &mut [u64],
     tm: &mut [u64],
-    count: &mut usize,
+    taken: &mut usize,
 ) -> u8
     ensures { λ r.
         let before = memOf (now (table .entry)) (now (xy .entry)) (now (ends .entry)) (now (z .entry)) (now (m .entry)) (now (t .entry)) (now (tm .entry)) in
         let after = memOf (now (table .exit)) (now (xy .exit)) (now (ends .exit)) (now (z .exit)) (now (m .exit)) (now (t .exit)) (now (tm .exit)) in
         let words = now (state .entry) in
-        ⌜ taken r (now (count .exit)) (now (state .exit)) after ≡ takenOf words (eventsCall (stateOf words) before (now (records .entry))) ⌝ }
+        ⌜ takenWith r (now (taken .exit)) (now (state .exit)) after ≡ takenOf words (eventsCall (stateOf words) before (now (events .entry))) ⌝ }
 {
     let before = *state;
-    let took = many::events(state_of(before), records, table, xy, ends, z, m, t, tm);
-    keep_all(state, count, took)
+    let took = many::events(state_of(before), events, table, xy, ends, z, m, t, tm);
+    keep_all(state, taken, took)
 }
 
 // Lays a value down after the feature's other property bytes. Refused: 15, 16, 11, 6, 12.
@@ -88,22 +88,22 @@ pub extern "C" fn bintolage_events(
 pub extern "C" fn bintolage_property(
     state: &mut StateWords,
     column: u32,
-    kind: u8,
+    column_type: u8,
     bits: u64,
     text: &[u8],
     buffer: &mut [u8],
 ) -> u8
     ensures answer { λ r.
-        let call = propertyCall (stateOf (now (state .entry))) column kind bits (now (text .entry)) (now (buffer .entry)) in
+        let call = propertyCall (stateOf (now (state .entry))) column «column_type» bits (now (text .entry)) (now (buffer .entry)) in
         ⌜ r ≡ call .number ⌝ }
     ensures words { λ _.
-        let call = propertyCall (stateOf (now (state .entry))) column kind bits (now (text .entry)) (now (buffer .entry)) in
+        let call = propertyCall (stateOf (now (state .entry))) column «column_type» bits (now (text .entry)) (now (buffer .entry)) in
         ⌜ now (state .exit) ≡ wordsAfter (now (state .entry)) call ⌝ }
     ensures bytes { λ _. let s = stateOf (now (state .entry)) in
-        ⌜ now (buffer .exit) ≡ bytesAfter (s .waiting) (s .properties) column kind bits (now (text .entry)) (now (buffer .entry)) ⌝ }
+        ⌜ now (buffer .exit) ≡ bytesAfter (s .waiting) (s .properties) column «column_type» bits (now (text .entry)) (now (buffer .entry)) ⌝ }
 {
     let before = *state;
-    let put = writer::property(state_of(before), column, kind, bits, text, buffer);
+    let put = writer::property(state_of(before), column, column_type, bits, text, buffer);
     keep(state, put)
 }
 
@@ -170,7 +170,7 @@ pub extern "C" fn bintolage_read(
 ) -> u8
     ensures { λ r. let P = poolsOf (now (xy .entry)) (now (ends .entry)) (now (z .entry)) (now (m .entry)) (now (t .entry)) (now (tm .entry)) in
         let script = readS (flagsOf flags) (recordWith (now (table .entry)) P) declared in
-        ⌜ Said events script (now (log .entry)) r (now (count .exit)) (now (log .exit)) ⌝ }
+        ⌜ Said eventRecords script (now (log .entry)) r (now (count .exit)) (now (log .exit)) ⌝ }
 {
     let read = reader::read(
         table,
@@ -198,16 +198,16 @@ pub extern "C" fn bintolage_read_properties(
     stop: u32,
     log: &mut [u8],
     count: &mut u32,
-    halted: &mut u8,
+    stopped: &mut u8,
 ) -> u8
     ensures said { λ r. let script = reading (now (bytes .entry)) (yes «has_columns») (now (columns .entry)) stop in
         ⌜ Said values script (now (log .entry)) r (now (count .exit)) (now (log .exit)) ⌝ }
     ensures stop { λ r. let script = reading (now (bytes .entry)) (yes «has_columns») (now (columns .entry)) stop in
-        ⌜ now (halted .exit) ≡ one (stopped stop script r) ⌝ }
+        ⌜ now (stopped .exit) ≡ one (stopping stop script r) ⌝ }
 {
     let read = property_reader::read_properties(bytes, has_columns != 0, columns, stop, log);
     *count = read.count as u32;
-    *halted = read.stopped as u8;
+    *stopped = read.stopped as u8;
     read.number
 }
 

@@ -49,10 +49,10 @@ fn run(head: Head, columns: &[u8]) {
     let mut work = Work::new(head.items);
     let mut state = [0u32; STATE_WORDS];
     bintolage::bintolage_start(
+        &mut state,
         head.declared,
         head.detect as u8,
         head.promote as u8,
-        &mut state,
     );
     let mut turns = u64::MAX;
     while turns > 0 {

@@ -9,10 +9,10 @@ use as_words::state::StateWords;
 fn start(case: &[u8], state: &mut StateWords) -> Answered {
     let marks = expected::state_byte(case, 3);
     bintolage::bintolage_start(
+        state,
         expected::state_byte(case, 0),
         marks & DETECT,
         marks & PROMOTE,
-        state,
     );
     alone(0)
 }

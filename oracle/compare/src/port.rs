@@ -92,7 +92,7 @@ impl Memory {
 
 pub fn start(declared: u8, detect: bool, promote: bool) -> Words {
     let mut state = [0xC0DE_C0DE; STATE_WORDS];
-    bare::start(declared, detect, promote, &mut state);
+    bare::start(&mut state, declared, detect, promote);
     state
 }
 
@@ -107,8 +107,8 @@ pub fn events(state: &mut Words, events: &[u8], memory: &mut Memory, lent: Lengt
     (number, taken)
 }
 
-pub fn property(state: &mut Words, column: u32, kind: u8, bits: u64, text: &[u8], memory: &mut Memory, lent: Lengths) -> u8 {
-    bare::property(state, column, kind, bits, text, &mut memory.properties[..lent[PROPERTIES]])
+pub fn property(state: &mut Words, column: u32, column_type: u8, bits: u64, text: &[u8], memory: &mut Memory, lent: Lengths) -> u8 {
+    bare::property(state, column, column_type, bits, text, &mut memory.properties[..lent[PROPERTIES]])
 }
 
 pub fn finish(state: &mut Words, memory: &mut Memory, lent: Lengths) -> u8 {

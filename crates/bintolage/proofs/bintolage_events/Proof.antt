@@ -29,4 +29,4 @@ bintolage-events-spec =
     let events = c .before .before .before .before .before .before .before .before .before .before .before .before .before .before .before .before .before .events in
     let known = c .before .before .before .before .before .before .before .before .before .before .before .before .before .before .before .before .before .before .before .before .before .before .before .before .before in
     let kept = c .keep-all .ensures in
-    taken-call (λ (s : State). eventsCall s (lends start) (now (start .args .records))) (now (start .args .state)) _ (known .state-of .ensures) (events .ensures) (kept .0) (kept .1 .0) (kept .1 .1)))
+    taken-call (λ (s : State). eventsCall s (lends start) (now (start .args .events))) (now (start .args .state)) _ (known .state-of .ensures) (events .ensures) (kept .0) (kept .1 .0) (kept .1 .1)))

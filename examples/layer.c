@@ -1,0 +1,325 @@
+/* The inline layer of bintolage.h, checked: records that are built are read back, null lists are lent as none, and every
+ * answer has its words. Prints how many checks were made and how many failed. */
+#include "bintolage.h"
+
+#include <stdio.h>
+#include <string.h>
+
+static unsigned checks, failures;
+
+static void check(const char *what, int holds)
+{
+    checks++;
+    if (!holds) {
+        failures++;
+        printf("failed: %s\n", what);
+    }
+}
+
+#define MOST 0xffffffffu
+
+/* Bits of doubles that are easily lost: a NaN with a payload, minus zero, the least number above zero, minus infinity. */
+static const uint64_t unusual[] = {0x7ff8000000c0ffee, 0x8000000000000000, 1, 0xfff0000000000000};
+
+static double unusual_double(int i)
+{
+    return bintolage_double_of(unusual[i % 4]);
+}
+
+static int is_unusual(double x, int i)
+{
+    return bintolage_bits_of(x) == unusual[i % 4];
+}
+
+static void check_numbers(void)
+{
+    for (int i = 0; i < 4; i++) {
+        check("a double's bits", is_unusual(unusual_double(i), i));
+    }
+    check("a float's bits", bintolage_bits_of_float(-1.5f) == 0xbfc00000);
+    check("a float of bits", bintolage_bits_of_float(bintolage_float_of(0x7fc0ffee)) == 0x7fc0ffee);
+    check("a float of low bits", bintolage_bits_of_float(bintolage_float_of(0x123456787fc0ffee)) == 0x7fc0ffee);
+}
+
+static int says(bintolage_event_fields e, int kind, int tagged, uint32_t size, uint32_t idx)
+{
+    return e.kind == kind && e.tagged == tagged && e.size == size && e.idx == idx;
+}
+
+static int is_bare(bintolage_event_fields e)
+{
+    return e.present == 0 && bintolage_bits_of(e.x) == 0 && bintolage_bits_of(e.y) == 0 && bintolage_bits_of(e.z) == 0 &&
+           bintolage_bits_of(e.m) == 0 && bintolage_bits_of(e.t) == 0 && e.tm == 0;
+}
+
+static void check_frames(void)
+{
+    for (uint8_t type = 1; type <= BINTOLAGE_TRIANGLE; type++) {
+        const bintolage_event_record begin = bintolage_begin(type, 255, MOST, MOST - 1);
+        const bintolage_event_record end = bintolage_end(type, 1, MOST);
+        const bintolage_event_record bare = bintolage_begin(type, 0, 0, 0);
+        check("a begin", says(bintolage_event_of(&begin), type, 1, MOST, MOST - 1) && is_bare(bintolage_event_of(&begin)));
+        check("an end", says(bintolage_event_of(&end), type + 32, 1, 0, MOST) && is_bare(bintolage_event_of(&end)));
+        check("a bare begin", says(bintolage_event_of(&bare), type, 0, 0, 0) && is_bare(bintolage_event_of(&bare)));
+    }
+}
+
+static void check_pairs(void)
+{
+    for (int i = 0; i < 4; i++) {
+        const bintolage_event_record record = bintolage_xy(unusual_double(i), unusual_double(i + 1), MOST);
+        const bintolage_event_fields e = bintolage_event_of(&record);
+        check("a pair", says(e, 64, 0, 0, MOST) && is_unusual(e.x, i) && is_unusual(e.y, i + 1));
+        check("a pair alone", e.present == 0 && e.tm == 0 && bintolage_bits_of(e.z) == 0);
+    }
+}
+
+static int is_unusual_or_zero(double x, int i, int present)
+{
+    return present ? is_unusual(x, i) : bintolage_bits_of(x) == 0;
+}
+
+static void check_coordinates(void)
+{
+    for (int present = 0; present < 16; present++) {
+        const bintolage_event_record record = bintolage_coordinate(
+            unusual_double(1), unusual_double(0), (uint8_t)present, unusual_double(0), unusual_double(1), unusual_double(2),
+            UINT64_MAX - 1, MOST);
+        const bintolage_event_fields e = bintolage_event_of(&record);
+        check("a coordinate", says(e, 65, 0, 0, MOST) && e.present == present && is_unusual(e.x, 1) && is_unusual(e.y, 0));
+        check("its z", is_unusual_or_zero(e.z, 0, present & BINTOLAGE_Z));
+        check("its m", is_unusual_or_zero(e.m, 1, present & BINTOLAGE_M));
+        check("its t", is_unusual_or_zero(e.t, 2, present & BINTOLAGE_T));
+        check("its tm", e.tm == (present & BINTOLAGE_TM ? UINT64_MAX - 1 : 0));
+    }
+}
+
+/* The bytes themselves, each in its place: builders and readers that were wrong alike would agree with one another. */
+static void check_bytes(void)
+{
+    const bintolage_event_record begin = bintolage_begin(3, 1, 0x04030201, 0x08070605);
+    const bintolage_event_record at = bintolage_coordinate(-0.0, 1, 15, 1.5, -2, 0.5, 0x0807060504030201, 9);
+    static const uint8_t frame[64] = {3, 1, 0, 0, 1, 2, 3, 4, 5, 6, 7, 8};
+    static const uint8_t point[64] = {65, 0, 15, 0, 0, 0, 0, 0, 9, 0, 0, 0, 0, 0, 0, 0, 0, 0, 0, 0, 0, 0,
+                                      0, 0x80, 0, 0, 0, 0, 0, 0, 0xf0, 0x3f, 0, 0, 0, 0, 0, 0, 0xf8, 0x3f, 0, 0, 0, 0,
+                                      0, 0, 0, 0xc0, 0, 0, 0, 0, 0, 0, 0xe0, 0x3f, 1, 2, 3, 4, 5, 6, 7, 8};
+    check("a begin's bytes", memcmp(begin.bytes, frame, 64) == 0);
+    check("a coordinate's bytes", memcmp(at.bytes, point, 64) == 0);
+}
+
+static uint8_t table[4 * BINTOLAGE_GEOMETRY_BYTES], properties[256];
+static uint64_t xy[32], z[16], m[16], t[16], tm[16];
+static uint32_t ends[16];
+
+static const bintolage_memory all = {
+    table, sizeof table, xy, 32, ends, 16, z, 16, m, 16, t, 16, tm, 16, properties, sizeof properties};
+
+/* All, but the lists that the bits of `mask` name have another count, and are null where `null` says so. */
+static bintolage_memory without(int mask, int null, size_t count)
+{
+    bintolage_memory lent = all;
+#define TAKE(bit, list, length) if (mask >> (bit) & 1) { lent.list = null ? NULL : lent.list; lent.length = count; }
+    TAKE(0, table, table_bytes)
+    TAKE(1, xy, xy_words)
+    TAKE(2, ends, ends_words)
+    TAKE(3, z, z_words)
+    TAKE(4, m, m_words)
+    TAKE(5, t, t_words)
+    TAKE(6, tm, tm_words)
+    TAKE(7, properties, properties_bytes)
+#undef TAKE
+    return lent;
+}
+
+/* A line of one place with all values, in a MultiLineString, so that every list is used; answers come in order. */
+#define ANSWERS 12
+
+static void make_every_call(const bintolage_memory *memory, uint8_t answers[ANSWERS])
+{
+    static const uint8_t two[] = {BINTOLAGE_COLUMN_INT, BINTOLAGE_COLUMN_STRING};
+    const bintolage_event_record line[] = {
+        bintolage_begin(BINTOLAGE_MULTI_LINE_STRING, 0, 1, 0), bintolage_begin(BINTOLAGE_LINE_STRING, 0, 1, 0),
+        bintolage_coordinate(1, 2, 15, 3, 4, 5, 6, 0), bintolage_end(BINTOLAGE_LINE_STRING, 0, 0)};
+    bintolage_event_record log[8];
+    bintolage_value_record values[2];
+    bintolage_edges edges;
+    bintolage_state state;
+    uint32_t count = 0;
+    size_t taken = 0;
+    memset(answers, 255, ANSWERS);
+    memset(table, 0, sizeof table);
+    bintolage_start(&state, BINTOLAGE_MULTI_LINE_STRING, 0, 0);
+    answers[0] = bintolage_give(&state, memory, line[0]);
+    answers[1] = bintolage_give_many(&state, memory, line + 1, 3, &taken);
+    answers[2] = (uint8_t)taken;
+    answers[3] = bintolage_give_number(&state, memory, 0, BINTOLAGE_COLUMN_INT, 7);
+    answers[4] = bintolage_give_text(&state, memory, 1, BINTOLAGE_COLUMN_STRING, "pipe", 4);
+    answers[5] = bintolage_read_values(&state, memory, two, 2, values, 2, &count);
+    answers[6] = (uint8_t)count;
+    answers[7] = bintolage_finish_feature(&state, memory);
+    answers[8] = bintolage_read_feature(memory, BINTOLAGE_MULTI_LINE_STRING, 15, log, 8, &count);
+    answers[9] = (uint8_t)count;
+    answers[10] = bintolage_read_box(memory, 0, &edges);
+    answers[11] = bintolage_next_feature(&state, memory);
+}
+
+/* For any lists: null, whatever their count says, they come to what they come to at a place of their own with count 0. */
+static void check_nulls(void)
+{
+    for (int mask = 0; mask < 256; mask++) {
+        const bintolage_memory empty = without(mask, 0, 0), null = without(mask, 1, 0), counted = without(mask, 1, 99);
+        uint8_t wanted[ANSWERS], found[ANSWERS];
+        make_every_call(&empty, wanted);
+        make_every_call(&null, found);
+        check("null lists are empty lists", memcmp(wanted, found, ANSWERS) == 0);
+        make_every_call(&counted, found);
+        check("null lists are empty whatever their count", memcmp(wanted, found, ANSWERS) == 0);
+    }
+}
+
+/* What the calls answer where all is lent, where nothing is, and where what is given or read into is null. */
+static void check_answers(void)
+{
+    static const uint8_t full[ANSWERS] = {0, 0, 3, 0, 0, 0, 2, 0, 0, 5, 0, 0};
+    static const uint8_t empty[ANSWERS] = {0, 12, 1, 12, 12, 0, 0, 12, 10, 0, 10, 15};
+    const bintolage_memory nothing = without(255, 1, 0);
+    bintolage_state state;
+    uint8_t found[ANSWERS];
+    size_t taken = 9;
+    uint32_t count = 9;
+    make_every_call(&nothing, found);
+    check("nothing lent", memcmp(found, empty, ANSWERS) == 0);
+    make_every_call(&all, found);
+    check("all lent", memcmp(found, full, ANSWERS) == 0);
+    check("pairs and ends in their lists", xy[0] == bintolage_bits_of(1) && xy[1] == bintolage_bits_of(2) && ends[0] == 1);
+    check("values in their lists", z[0] == bintolage_bits_of(3) && m[0] == bintolage_bits_of(4));
+    check("times in their lists", t[0] == bintolage_bits_of(5) && tm[0] == 6);
+    check("a null log", bintolage_read_feature(&all, 5, 0, NULL, 3, &count) == BINTOLAGE_LOG_FULL && count == 0);
+    bintolage_start(&state, 0, 0, 0);
+    check("no events", bintolage_give_many(&state, &all, NULL, 3, &taken) == BINTOLAGE_DONE && taken == 0);
+    check("no text", bintolage_give_text(&state, &all, 0, BINTOLAGE_COLUMN_STRING, NULL, 3) == BINTOLAGE_DONE);
+    check("its bytes", bintolage_property_bytes(&state) == 6 && memcmp(properties, "\0\0\0\0\0\0", 6) == 0);
+    check("no columns", bintolage_read_values(&state, &all, NULL, 3, NULL, 3, &count) == BINTOLAGE_COLUMN_UNKNOWN);
+    state.words[2] = MOST;
+    check("no more is read than is lent", bintolage_read_values(&state, &nothing, NULL, 0, NULL, 0, &count) == BINTOLAGE_DONE);
+}
+
+/* A collection of one place: a part, a box, and records at odd addresses. */
+static void check_reading(void)
+{
+    const bintolage_event_record given[] = {
+        bintolage_begin(BINTOLAGE_GEOMETRY_COLLECTION, 0, 1, 0), bintolage_begin(BINTOLAGE_POINT, 0, 0, 0),
+        bintolage_xy(-7.5, unusual_double(1), 0), bintolage_end(BINTOLAGE_POINT, 0, 0),
+        bintolage_end(BINTOLAGE_GEOMETRY_COLLECTION, 0, 0)};
+    uint8_t bytes[1 + sizeof given];
+    bintolage_event_record *log = (bintolage_event_record *)(bytes + 1);
+    bintolage_edges box;
+    bintolage_state state;
+    uint32_t count = 0;
+    size_t taken = 0;
+    bintolage_start(&state, BINTOLAGE_GEOMETRY_COLLECTION, 0, 0);
+    check("events given", bintolage_give_many(&state, &all, given, 5, &taken) == BINTOLAGE_DONE && taken == 5);
+    check("a part", bintolage_parts(&state) == 1);
+    check("a feature finished", bintolage_finish_feature(&state, &all) == BINTOLAGE_DONE);
+    check("a feature read", bintolage_read_feature(&all, BINTOLAGE_GEOMETRY_COLLECTION, 0, log, 5, &count) == BINTOLAGE_DONE);
+    check("its events", count == 5);
+    check("the events that were given", memcmp(log, given, sizeof given) == 0);
+    check("a box", bintolage_read_box(&all, 1, &box) == BINTOLAGE_DONE);
+    check("least", is_unusual(box.least_y, 1) && bintolage_bits_of(box.least_x) == bintolage_bits_of(-7.5));
+    check("greatest", is_unusual(box.greatest_y, 1) && bintolage_bits_of(box.greatest_x) == bintolage_bits_of(-7.5));
+    check("no such record", bintolage_read_box(&all, 4, &box) == BINTOLAGE_BAD_RECORD && is_unusual(box.greatest_x, 3));
+}
+
+static const uint8_t widths[] = {1, 1, 1, 2, 2, 4, 4, 8, 8, 4, 8};
+static const uint8_t columns[] = {0, 1, 2, 3, 4, 5, 6, 7, 8, 9, 10, 11, 12, 13, 14};
+
+/* All bits that a number of the type has. */
+static uint64_t most_of(uint8_t type)
+{
+    return type == BINTOLAGE_COLUMN_BOOL ? 1 : UINT64_MAX >> (64 - 8 * widths[type]);
+}
+
+static int is_most(bintolage_value_fields v)
+{
+    return v.length == widths[v.column_type] && v.word == most_of(v.column_type);
+}
+
+static int is_text(bintolage_value_fields v, const char *text)
+{
+    return v.length == strlen(text) && v.word + v.length <= sizeof properties && !memcmp(properties + v.word, text, v.length);
+}
+
+/* A value of each type, in the column of its number. */
+static void check_values(void)
+{
+    bintolage_value_record log[15];
+    bintolage_state state;
+    uint32_t count = 0;
+    bintolage_start(&state, 0, 0, 0);
+    for (uint8_t type = 0; type < 11; type++) {
+        check("a number given", bintolage_give_number(&state, &all, type, type, most_of(type)) == BINTOLAGE_DONE);
+    }
+    for (uint8_t type = 11; type < 15; type++) {
+        check("a text given", bintolage_give_text(&state, &all, type, type, "mål", 4) == BINTOLAGE_DONE);
+    }
+    check("values read", bintolage_read_values(&state, &all, columns, 15, log, 15, &count) == BINTOLAGE_DONE && count == 15);
+    for (uint8_t type = 0; type < 15; type++) {
+        const bintolage_value_fields v = bintolage_value_of(&log[type]);
+        check("its column and type", v.column == type && v.column_type == type);
+        check("its value", type < 11 ? is_most(v) : is_text(v, "mål"));
+    }
+}
+
+/* A number is no text, a text no number, and where another refusal is due before, that is given. */
+static void check_types(void)
+{
+    for (int type = 0; type < 256; type++) {
+        bintolage_state state;
+        bintolage_start(&state, 0, 0, 0);
+        const uint8_t number = bintolage_give_number(&state, &all, 0, (uint8_t)type, 0);
+        const uint8_t text = bintolage_give_text(&state, &all, 0, (uint8_t)type, "", 0);
+        check("a number's type", number == (type < 11 ? BINTOLAGE_DONE : BINTOLAGE_MALFORMED));
+        check("a text's type", text == (type > 10 && type < 15 ? BINTOLAGE_DONE : BINTOLAGE_MALFORMED));
+        check("a number's column", bintolage_give_number(&state, &all, 65536, (uint8_t)type, 0) == BINTOLAGE_COLUMN_TOO_LARGE);
+        check("a text's column", bintolage_give_text(&state, &all, 65536, (uint8_t)type, "", 0) == BINTOLAGE_COLUMN_TOO_LARGE);
+    }
+}
+
+static void check_value_bytes(void)
+{
+    static const bintolage_value_record record = {{0xfe, 0xff, 14, 0, 1, 2, 3, 0xff, 1, 2, 3, 4, 5, 6, 7, 0xff}};
+    const bintolage_value_fields v = bintolage_value_of(&record);
+    check("a value's column", v.column == 65534 && v.column_type == 14);
+    check("a value's length and word", v.length == 0xff030201 && v.word == 0xff07060504030201);
+}
+
+static void check_words(void)
+{
+    static const char unknown[] = "a number that no call answers";
+    for (int number = 0; number < 256; number++) {
+        const char *words = bintolage_refusal((uint8_t)number);
+        check("words", words[0] != 0 && (strcmp(words, unknown) == 0) == (number > 16));
+        for (int other = 0; other < number && number < 17; other++) {
+            check("words of its own", strcmp(words, bintolage_refusal((uint8_t)other)) != 0);
+        }
+    }
+    check("done", strcmp(bintolage_refusal(BINTOLAGE_DONE), "done") == 0);
+}
+
+int main(void)
+{
+    check_numbers();
+    check_frames();
+    check_pairs();
+    check_coordinates();
+    check_bytes();
+    check_nulls();
+    check_answers();
+    check_reading();
+    check_values();
+    check_types();
+    check_value_bytes();
+    check_words();
+    printf("layer: %u checks, %u failed\n", checks, failures);
+    return failures != 0;
+}
