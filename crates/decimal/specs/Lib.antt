@@ -1,0 +1,5 @@
+pub mod Rounding
+pub mod RoundingLaws
+pub mod Magnitude
+pub mod FractionLaws
+pub mod FiniteLaws
