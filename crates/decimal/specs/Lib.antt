@@ -3,3 +3,5 @@ pub mod RoundingLaws
 pub mod Magnitude
 pub mod FractionLaws
 pub mod FiniteLaws
+pub mod Text
+pub mod TextLaws

@@ -1,8 +1,11 @@
 // A double or a float, by its bit pattern, as a decimal number with seven digits behind the point, rounded half to even.
 mod finite;
 mod fraction;
+mod text;
 
 use finite::finite;
+pub use text::TEXT_BYTES;
+pub use text::spell;
 ghost use mathlib.Core.Path.{_≡_};
 ghost use lib.Dec.{leb};
 ghost use Prim.Native.Nat.{_^_};
