@@ -4,22 +4,14 @@ use crate::output::say_hex;
 use crate::output::say_number;
 use decimal::Decimal;
 use decimal::Magnitude;
+use decimal::TEXT_BYTES;
+use decimal::spell;
 
-const ONE: u64 = 10000000;
-
-// The seven digits are those behind the first of a number that is larger by ten millions.
-fn say_fraction(fraction: u64) {
-    let mut text = [0u8; 20];
-    let digits = io::decimal(ONE + fraction % ONE, &mut text);
-    if digits == 8 {
-        say(&text[1..8]);
-    }
-}
-
-fn say_decimal(d: Decimal) {
-    say_number(d.whole);
-    say(b".");
-    say_fraction(d.fraction);
+// The number with its sign, its digits and its point is one text, and `decimal` says what stands in it.
+fn say_decimal(negative: bool, d: Decimal) {
+    let mut text = [0u8; TEXT_BYTES];
+    let start = spell(negative, d, &mut text);
+    say(&text[start..]);
 }
 
 fn say_sign(negative: bool) {
@@ -40,10 +32,7 @@ fn say_magnitude(magnitude: Magnitude, negative: bool, bits: u64) {
             say_sign(negative);
             say(b"infinity");
         }
-        Magnitude::Finite(d) => {
-            say_sign(negative);
-            say_decimal(d);
-        }
+        Magnitude::Finite(d) => say_decimal(negative, d),
     }
 }
 

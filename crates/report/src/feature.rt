@@ -1,11 +1,10 @@
 // A finished feature: its geometry, and its properties.
 use crate::row::first;
-use crate::row::first_events;
 use crate::row::first_values;
-use crate::row::same;
 use crate::values::show_values;
 use crate::verdict::KEPT;
 use crate::verdict::say_verdict;
+use compared::same;
 use console::end_line;
 use console::say;
 use console::say_number;
@@ -68,11 +67,7 @@ fn judged(feature: Feature, answer: Answer, sent: &[u8], log: &[u8]) -> bool {
         say_no_map(reason);
         return false;
     }
-    say_verdict(
-        answer,
-        first_events(sent, feature.events),
-        first_events(log, answer.count),
-    )
+    say_verdict(answer, feature.events, sent, log)
 }
 
 // Compares what was read back with what was sent, and shows it. Answers whether there is a map of it.

@@ -1,6 +1,7 @@
 // Whether a feature came back as it went in.
-use crate::row::common;
-use crate::row::same;
+use crate::row::first_events;
+use compared::comes_back;
+use compared::common;
 use console::end_line;
 use console::say;
 use console::say_count;
@@ -35,11 +36,12 @@ fn say_difference(sent: &[u8], back: &[u8]) {
     say(b"\n  what came back, which is NOT what went in:\n");
 }
 
-fn say_compared(sent: &[u8], back: &[u8]) {
-    if same(sent, back) {
+// So many events were given, and so many read back. What is said follows from the comparison alone.
+fn say_compared(events: usize, count: usize, sent: &[u8], log: &[u8]) {
+    if comes_back(events, count, sent, log) {
         return say(b": comes back as it went in\n");
     }
-    say_difference(sent, back);
+    say_difference(first_events(sent, events), first_events(log, count));
 }
 
 fn say_last(back: &[u8], count: usize) {
@@ -61,11 +63,11 @@ fn say_unread(answer: Answer, back: &[u8]) {
 }
 
 // Answers whether there is a map to show.
-pub fn say_verdict(answer: Answer, sent: &[u8], back: &[u8]) -> bool {
+pub fn say_verdict(answer: Answer, events: usize, sent: &[u8], log: &[u8]) -> bool {
     if answer.number == refusal::DONE {
-        say_compared(sent, back);
+        say_compared(events, answer.count, sent, log);
         return true;
     }
-    say_unread(answer, back);
+    say_unread(answer, first_events(log, answer.count));
     false
 }

@@ -1,0 +1,7 @@
+pub mod Rounding
+pub mod RoundingLaws
+pub mod Magnitude
+pub mod FractionLaws
+pub mod FiniteLaws
+pub mod Text
+pub mod TextLaws
