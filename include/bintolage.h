@@ -78,7 +78,7 @@ extern "C" {
  *
  * Every call but bintolage_start answers 0 for done, or why it was refused. A refused write changes nothing: neither a
  * word of the state nor a lent byte (of bintolage_events this is the event that was refused; those before it are taken).
- * A refused read leaves in the log exactly the records before the refused place.
+ * Of a refused read the log has the records that come before the refused place, and no others.
  */
 #define BINTOLAGE_DONE             0
 #define BINTOLAGE_XY_ABSENT        1  /* read: a list of coordinates is absent where one is needed */
@@ -89,7 +89,7 @@ extern "C" {
 #define BINTOLAGE_TYPES_MIXED      5  /* event: this type does not go into a feature of the declared type */
 #define BINTOLAGE_NOT_UTF8         6  /* property, read_properties: a String, Json or DateTime is not UTF-8 (RFC 3629) */
 #define BINTOLAGE_PAST_LIST        7  /* read: a coordinate, or a z, m, t or tm value, lies past its list */
-#define BINTOLAGE_BAD_END          8  /* read: an end of 2^31 or more, or below the one before */
+#define BINTOLAGE_BAD_END          8  /* read: an end that is 2^31 or larger, or less than the end before it */
 #define BINTOLAGE_LOG_FULL         9  /* read, read_properties: the log has no room for the next record */
 #define BINTOLAGE_BAD_RECORD      10  /* read, box: a bad geometry record or table ("Geometry record", below) */
 #define BINTOLAGE_MALFORMED       11  /* event: no well-formed event record; property: no such type, a Bool above 1, or
@@ -145,7 +145,7 @@ extern "C" {
 /*
  * EVENT KINDS
  *
- * A begin has the geometry type's number, an end has it plus BINTOLAGE_END. Types 0, 13 and 14 have no events.
+ * A begin has the geometry type's number, an end has it plus BINTOLAGE_END. There are no events of types 0, 13 and 14.
  */
 #define BINTOLAGE_END         32
 #define BINTOLAGE_XY          64  /* a pair x, y */
@@ -204,9 +204,9 @@ extern "C" {
  *    60..63  spare
  * Record 0 is the root. Parts stand one after the other, at numbers above the record's own. The ends of a list of lines or
  * rings count pairs, from the start of the record's own xy list, to the end of each line or ring.
- * A table is bad (10) if its length is no whole number of records or it has none. A record is bad (10) if its number is
- * past the table or 4,095, a spare byte or present bit 128 is set, an absent list has a start or count, a list passes the
- * lent or usable end of its pool, or parts start at or below the record or pass the table's end.
+ * A table that is read is bad (10) if it has no record, or bytes left over behind its whole records. A record is bad (10)
+ * if it is not in the table or its number is above 4,095, a spare byte is set or the present bits are 128 or more, a list
+ * without its bit has a start or a count, a list goes on behind what is lent or usable, or its parts do not start above it.
  *
  * Value record, 16 bytes
  *     0..1   column
@@ -349,9 +349,9 @@ uint8_t bintolage_read_properties(
     uint32_t *count, uint8_t *stopped);
 
 /*
- * The box around the xy list that record `n` itself has, as the bit patterns of four doubles: least x, least y, greatest x,
- * greatest y. It begins at plus infinity twice, minus infinity twice, and a value replaces an edge only where it is strictly
- * beyond it, so a NaN never does. The edges are written refused or not; refused, they are those beginnings. Refused: 10.
+ * The box around the xy list that record `n` itself has, as the bit patterns of four doubles: the least x and y, and then
+ * the greatest. At first the least edges are plus infinity and the greatest minus infinity; a value replaces an edge only
+ * where it is strictly beyond it, so a NaN never does. The edges are written refused or not; refused, as at first. Refused: 10.
  */
 uint8_t bintolage_box(
     const uint8_t *table, size_t table_bytes,
@@ -741,22 +741,22 @@ static inline const char *bintolage_refusal(uint8_t number)
 {
     switch (number) {
     case BINTOLAGE_DONE: return "done";
-    case BINTOLAGE_XY_ABSENT: return "a list of coordinates is absent";
-    case BINTOLAGE_PARTS_ABSENT: return "a list of parts is absent, or the column is not below the column count";
+    case BINTOLAGE_XY_ABSENT: return "an xy list is absent";
+    case BINTOLAGE_PARTS_ABSENT: return "parts are absent, or a column is not below the column count";
     case BINTOLAGE_TYPE_UNKNOWN: return "unknown geometry type";
-    case BINTOLAGE_TYPE_NOT_A_CURVE: return "a type that does not belong in a curve";
+    case BINTOLAGE_TYPE_NOT_A_CURVE: return "unexpected type in a curve";
     case BINTOLAGE_TYPES_MIXED: return "types mixed";
-    case BINTOLAGE_NOT_UTF8: return "text that is not UTF-8";
-    case BINTOLAGE_PAST_LIST: return "a coordinate or value past its list";
-    case BINTOLAGE_BAD_END: return "an end of 2^31 or more, or below the one before";
+    case BINTOLAGE_NOT_UTF8: return "text is not UTF-8";
+    case BINTOLAGE_PAST_LIST: return "a coordinate or a z, m, t or tm value past its list";
+    case BINTOLAGE_BAD_END: return "an end that is 2^31 or larger, or less than the end before it";
     case BINTOLAGE_LOG_FULL: return "the log is full";
-    case BINTOLAGE_BAD_RECORD: return "a bad geometry record or table";
-    case BINTOLAGE_MALFORMED: return "a malformed event or value";
-    case BINTOLAGE_NO_ROOM: return "no room";
+    case BINTOLAGE_BAD_RECORD: return "bad geometry record or table";
+    case BINTOLAGE_MALFORMED: return "malformed event or value";
+    case BINTOLAGE_NO_ROOM: return "no room in a pool, the table or the property bytes";
     case BINTOLAGE_TOO_DEEP: return "a part at level 17";
     case BINTOLAGE_VALUE_CUT: return "a property value cut short";
-    case BINTOLAGE_NOT_ITS_TURN: return "not this call's turn";
-    case BINTOLAGE_COLUMN_TOO_LARGE: return "a column above 65,535";
+    case BINTOLAGE_NOT_ITS_TURN: return "not its turn";
+    case BINTOLAGE_COLUMN_TOO_LARGE: return "column number above 65,535";
     default: return "a number that no call answers";
     }
 }

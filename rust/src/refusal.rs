@@ -19,7 +19,7 @@ pub enum Refusal {
     NotUtf8,
     /// 7: a coordinate, or a z, m, t or tm value, lies past its list.
     PastList,
-    /// 8: an end of 2^31 or more, or below the one before.
+    /// 8: an end that is 2^31 or larger, or less than the end before it.
     BadEnd,
     /// 9: the log has no room for the next record.
     LogFull,
@@ -41,23 +41,23 @@ pub enum Refusal {
 
 /// Each refusal's number and words.
 const WORDS: [(Refusal, u8, &str); 17] = [
-    (Refusal::XyAbsent, 1, "a list of coordinates is absent"),
-    (Refusal::PartsAbsent, 2, "a list of parts is absent"),
-    (Refusal::ColumnUnknown, 2, "the column is not below the column count"),
+    (Refusal::XyAbsent, 1, "an xy list is absent"),
+    (Refusal::PartsAbsent, 2, "parts are absent"),
+    (Refusal::ColumnUnknown, 2, "a column is not below the column count"),
     (Refusal::TypeUnknown, 3, "unknown geometry type"),
-    (Refusal::TypeNotACurve, 4, "a type that does not belong in a curve"),
+    (Refusal::TypeNotACurve, 4, "unexpected type in a curve"),
     (Refusal::TypesMixed, 5, "types mixed"),
-    (Refusal::NotUtf8, 6, "text that is not UTF-8"),
-    (Refusal::PastList, 7, "a coordinate or value past its list"),
-    (Refusal::BadEnd, 8, "an end of 2^31 or more, or below the one before"),
+    (Refusal::NotUtf8, 6, "text is not UTF-8"),
+    (Refusal::PastList, 7, "a coordinate or a z, m, t or tm value past its list"),
+    (Refusal::BadEnd, 8, "an end that is 2^31 or larger, or less than the end before it"),
     (Refusal::LogFull, 9, "the log is full"),
-    (Refusal::BadRecord, 10, "a bad geometry record or table"),
-    (Refusal::Malformed, 11, "a malformed event or value"),
-    (Refusal::NoRoom, 12, "no room"),
+    (Refusal::BadRecord, 10, "bad geometry record or table"),
+    (Refusal::Malformed, 11, "malformed event or value"),
+    (Refusal::NoRoom, 12, "no room in a pool, the table or the property bytes"),
     (Refusal::TooDeep, 13, "a part at level 17"),
     (Refusal::ValueCut, 14, "a property value cut short"),
-    (Refusal::NotItsTurn, 15, "not this call's turn"),
-    (Refusal::ColumnTooLarge, 16, "a column above 65,535"),
+    (Refusal::NotItsTurn, 15, "not its turn"),
+    (Refusal::ColumnTooLarge, 16, "column number above 65,535"),
 ];
 
 impl Refusal {

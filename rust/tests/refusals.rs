@@ -164,7 +164,7 @@ fn a_refused_event_changes_nothing() {
 
 #[test]
 fn words_and_numbers() {
-    assert_eq!(Refusal::BadEnd.to_string(), "8: an end of 2^31 or more, or below the one before");
-    assert_eq!(Refusal::ColumnTooLarge.to_string(), "16: a column above 65,535");
+    assert_eq!(Refusal::BadEnd.to_string(), "8: an end that is 2^31 or larger, or less than the end before it");
+    assert_eq!(Refusal::ColumnTooLarge.to_string(), "16: column number above 65,535");
     assert_eq!((Refusal::PartsAbsent.number(), Refusal::ColumnUnknown.number()), (2, 2));
 }

@@ -13,7 +13,6 @@ use Rattle.log.specs.Log.{events}
 use Rattle.store.specs.Records.{tableGood}
 use Rattle.reader.specs.Reading.{readS}
 use Rattle.reader.specs.Examples.{noFlags}
-use Rattle.reader.specs.Sized.{InWords}
 use Rattle.asking.specs.declared.typing.Typing.{Typing}
 use Rattle.writing.specs.State.{Mem}
 use Rattle.bintolage.specs.Calls.{yes}
@@ -29,6 +28,7 @@ use Rattle.format.specs.Writable.{Held, Writable}
 use Rattle.format.specs.Writes.{normal, resting, fresh-rests, ending, ending-means, ending-rests, declared, starts, over-is}
 use Rattle.least.specs.Sound.{treeSize}
 use Rattle.least.specs.Smallest.{smallest}
+use Rattle.least.specs.Sized.{InWords}
 use Rattle.least.specs.Logged.{told-fit, logged-reads}
 use Rattle.claims.specs.Row.{Lends, Step, finished, renewed, tookAll, Accepted, Row}
 use Rattle.claims.specs.Linked.{made, made-then, made-events, finished-tree}

@@ -23,7 +23,7 @@ use Rattle.reader.specs.Reading.{readS}
 use Rattle.geometry.specs.Geometry.{Geometry, depth}
 use Rattle.geometry.specs.Events.{eventsOf}
 use Rattle.format.specs.Format.{Tree}
-use Rattle.geometry.specs.Told.{Complete, said-complete}
+use Rattle.geometry.specs.Told.{told, Complete, said-complete}
 use Rattle.format.specs.Reads.{Small, AllSmall, agrees, reads}
 
 module _ (table : List ℕ) (P : Pools) where

@@ -13,5 +13,7 @@ pub mod Below
 pub mod Above
 pub mod Written
 pub mod Smallest
-pub mod EventsFit
 pub mod Logged
+pub mod Fits
+pub mod OwnFits
+pub mod Sized

@@ -16,8 +16,8 @@ use Rattle.kinds.specs.declared.flags.Flags.{Flags}
 use Rattle.log.specs.Log.{events, heard, hear-said}
 use Rattle.store.specs.Lists.{Pools, recordWith}
 use Rattle.reader.specs.Reading.{readS}
-use Rattle.reader.specs.Fits.{AllSaid, Fits}
-use Rattle.reader.specs.Sized.{InWords, table-says}
+use Rattle.least.specs.Fits.{AllSaid, Fits}
+use Rattle.least.specs.Sized.{InWords, table-says}
 use Rattle.asking.specs.declared.typing.Typing.{Typing}
 use Rattle.writer_model.specs.Writer.{tree}
 use Rattle.writer_model.specs.Tree.{Holds}

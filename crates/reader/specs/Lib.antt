@@ -3,6 +3,3 @@ pub mod Roles
 pub mod RoleLaws
 pub mod Lone
 pub mod Examples
-pub mod Fits
-pub mod OwnFits
-pub mod Sized

@@ -17,7 +17,7 @@ use Rattle.kinds.specs.declared.event.Event.{Event}
 use Rattle.geometry.specs.Coordinate.{or0}
 use Rattle.coords.specs.Coords.{Lanes, Coords, headOf, tailOf, dropO, dropped, tails, seen as shown, taken, coordinateS, pairS, coordsS, betweenS}
 use Rattle.lines.specs.Lines.{orNone, single, stretches, badEnd, stretchS, linesS, flatO, flatS, ringsS, stretchesS, ifThere, multiLineS, triangleAt, trianglesS, triangleS, tinS, pointS}
-use Rattle.reader.specs.Fits.{then-said, framed-said, either-said, Fits, Says, U32, U64, Frame, begin-fits, end-fits, frame-says, xy-fits, coord-fits}
+use Rattle.least.specs.Fits.{then-said, framed-said, either-said, Fits, Says, U32, U64, Frame, begin-fits, end-fits, frame-says, xy-fits, coord-fits}
 
 -- ---- words of 64 bits (past a list's end `getD` gives 0)
 abbrev pub Words : List ℕ → Type 0

@@ -23,9 +23,9 @@ use Rattle.store.specs.RecordLaws.{InPool, InTable, within}
 use Rattle.store.specs.Lists.{Pools, poolsOf, Rec, lentOf, listOf, partsOf, listsOf, seen, recordWith}
 use Rattle.coords.specs.Coords.{Coords, coordsOf}
 use Rattle.lines.specs.Lines.{orNone, polygonS}
 use Rattle.reader.specs.Reading.{partsS, spanS, found, polygonPart, curveOf, curveS, kindS, geometryS, rootS, readS}
-use Rattle.reader.specs.Fits.{then-said, either-said, Fits, Says, U32, Frame, frame-says, six-or-fifteen, nine-to-twelve}
-use Rattle.reader.specs.OwnFits.{Words, WordsIn, take-words, drop-words, shown-words, InCoords, point-says, flat-says, stretches-say, multi-line-says, triangle-says, tin-says}
+use Rattle.least.specs.Fits.{then-said, either-said, Fits, Says, U32, Frame, frame-says, six-or-fifteen, nine-to-twelve}
+use Rattle.least.specs.OwnFits.{Words, WordsIn, take-words, drop-words, shown-words, InCoords, point-says, flat-says, stretches-say, multi-line-says, triangle-says, tin-says}
 
 -- ---- a record whose lists are words, and no longer than an index counts
 abbrev FewParts : Option (ℕ × ℕ) → Type 0
