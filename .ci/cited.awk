@@ -416,7 +416,7 @@ END {
         if (!(edit_list[i] in named_edits)) {
             split(edit_list[i], one, "\t")
             print "documents: docs/CLAIMS.md does not name the edit " quoted(one[2]) " of crate " quoted(one[1])
-            faults += all_edits
+            faults++
         }
     for (word in elsewhere)
         if (!(word in needed)) {
