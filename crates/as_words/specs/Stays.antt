@@ -25,7 +25,7 @@ use Rattle.writing.specs.State.{Mem, Outcome, wrote}
 use Rattle.pending.specs.Room.{hasRoom}
 use Rattle.writing.specs.Calls.{started, recordsFor, stateAfter, roomOr, decideTyped, decideEvent, eventWith, eventOf, eventCall, finished, decideFinish, finishCall, renewed, decideNext, nextCall}
 use Rattle.runs.specs.declared.took.Took.{Took}
-use Rattle.runs.specs.Events.{Progress, progress, took, recordOf, recordsIn, eventsFrom, eventsCall}
+use Rattle.runs.specs.Events.{Progress, recordOf, recordsIn, eventsFrom, eventsCall, by-records}
 use Rattle.as_words.specs.Words.{byteOf, typingOf, stateOf, wordsOf, wordsAfter, wordsAfterAll}
 use Rattle.as_words.specs.WordLaws.{InBytes, state-words, done-state, refused-state}
 
@@ -180,19 +180,9 @@ record Went (i : ℕ) (s : State) (k : Mem) (p : Progress) : Type 0 where
   untaken : p .took .taken ≡ i → (p .took .state ≡ s) × (p .mem ≡ k)
 
 went : (records : List ℕ) (left i : ℕ) (s : State) (k : Mem) → Bytes s → Went i s k (eventsFrom left i records s k)
-unfolding eventsFrom
-went records zero i s k h = record { in-bytes = h; counted = omega arith; untaken = λ e. (refl, refl) }
-went records (suc left) i s k h = go (eqb (o .wrote .number) 0) (went records left (i + 1) (o .wrote .state) (o .mem) (event-bytes s h k (recordOf records i)))
-  where
-    o : Outcome
-    o = eventCall s k (recordOf records i)
-
-    onward : Progress
-    onward = eventsFrom left (i + 1) records (o .wrote .state) (o .mem)
-
-    go : (b : Bool) → Went (i + 1) (o .wrote .state) (o .mem) onward → Went i s k (cond b onward (progress (took (o .wrote .number) i s) k))
-    go true w = record { in-bytes = w .in-bytes; counted = omega (arith, w .counted); untaken = λ e. absurd (omega (arith, w .counted)) }
-    go false w = record { in-bytes = h; counted = omega arith; untaken = λ e. (refl, refl) }
+went records = by-records records (λ i s k p. Bytes s → Went i s k p)
+    (λ number i s k h. record { in-bytes = h; counted = omega arith; untaken = λ e. (refl, refl) })
+    (λ i s k p taken more h. let w = more (event-bytes s h k (recordOf records i)) in record { in-bytes = w .in-bytes; counted = omega (arith, w .counted); untaken = λ e. absurd (omega (arith, w .counted)) })
 
 module _ (words records : List ℕ) (k : Mem) where
   abbrev came : Progress

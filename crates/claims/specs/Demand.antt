@@ -128,8 +128,8 @@ module _ (type detect promote : ℕ) where
           reads = λ L number count M room said. reads-said (m .table) (m .pools) noFlags 0 type f L number count M t agrees shallow room said;
           least = no-smaller here;
           least-logged = λ own table P words L number count M said complete.
-            let fit = told-fit noFlags (m .table) (m .pools) own type (eventsOf noFlags 0 f) (table-reads (m .table) (m .pools) noFlags 0 type f t agrees shallow) in
-            no-smaller here table P (logged-reads noFlags table P words type (eventsOf noFlags 0 f) fit L number count M said complete);
+              let fit = told-fit noFlags (m .table) (m .pools) own type (eventsOf noFlags 0 f) (table-reads (m .table) (m .pools) noFlags 0 type f t agrees shallow) in
+              no-smaller here table P (logged-reads noFlags table P words type (eventsOf noFlags 0 f) fit L number count M said complete);
         }
       where
         no-smaller : Holds (recordWith (m .table) (m .pools)) 0 (tree (ending typed (d .2))) → (table : List ℕ) (P : Pools) → readS noFlags (recordWith table P) type ≡ told (eventsOf noFlags 0 f) → treeSize (m .table) (m .pools) ≤ treeSize table P

@@ -18,7 +18,7 @@ use Rattle.writing.specs.declared.state.State.{State}
 use Rattle.writing.specs.declared.state.Wrote.{Wrote}
 use Rattle.writing.specs.State.{Mem, Outcome}
 use Rattle.writing.specs.Calls.{started, eventCall, finishCall, nextCall}
-use Rattle.runs.specs.Events.{Progress, progress, took as tookIn, recordOf, recordsIn, eventsFrom, eventsCall}
+use Rattle.runs.specs.Events.{Progress, recordOf, recordsIn, eventsFrom, eventsCall, by-records}
 use Rattle.writer.specs.Property.{propertyCall}
 use Rattle.as_words.specs.Words.{stateOf, wordsOf, wordsAfter, wordsAfterAll}
 use Rattle.as_words.specs.WordLaws.{InBytes, state-words}
@@ -91,25 +91,13 @@ record Given (bytes : List ℕ) (i : ℕ) (w : Writer) (l : List ℕ) (p : Progr
   reached : Reached (p .took .state) (p .mem) (made w (tookAll (heardFrom count i bytes))) (l ++ pairsOf (heardFrom count i bytes))
 
 given-from : (bytes : List ℕ) (left i : ℕ) (s : State) (k : Mem) (w : Writer) (l : List ℕ) → Reached s k w l → Given bytes i w l (eventsFrom left i bytes s k)
-unfolding eventsFrom
-given-from bytes zero i s k w l r = record { count = 0; counted = omega arith; reached = rw (append-nil l) r }
-given-from bytes (suc left) i s k w l r = go (eqb (o .wrote .number) 0) refl (λ h. given-from bytes left (i + 1) (o .wrote .state) (o .mem) (hears w p) (l ++ pairIn p) (accepted (eventC (recordOf bytes i)) h r))
-  where
-    o : Outcome
-    o = eventCall s k (recordOf bytes i)
-
-    p : Parsed
-    p = heard (recordOf bytes i)
-
-    onward : Progress
-    onward = eventsFrom left (i + 1) bytes (o .wrote .state) (o .mem)
-
-    go : (b : Bool) → eqb (o .wrote .number) 0 ≡ b → (o .wrote .number ≡ 0 → Given bytes (i + 1) (hears w p) (l ++ pairIn p) onward) → Given bytes i w l (cond b onward (progress (tookIn (o .wrote .number) i s) k))
-    go true is more =
-        let g = more (eqb-true (o .wrote .number) 0 is) in
-        let rest : List Event = heardFrom (g .count) (i + 1) bytes in
-        record { count = suc (g .count); counted = omega (arith, g .counted); reached = as-is (heard-made w p rest) (heard-pairs l p rest) (g .reached) }
-    go false is more = record { count = 0; counted = omega arith; reached = rw (append-nil l) r }
+given-from bytes = by-records bytes (λ i s k p. (w : Writer) (l : List ℕ) → Reached s k w l → Given bytes i w l p)
+    (λ number i s k w l r. record { count = 0; counted = omega arith; reached = rw (append-nil l) r })
+    (λ i s k p taken more w l r.
+    let here : Parsed = heard (recordOf bytes i) in
+    let g = more (hears w here) (l ++ pairIn here) (accepted (eventC (recordOf bytes i)) taken r) in
+    let rest : List Event = heardFrom (g .count) (i + 1) bytes in
+    record { count = suc (g .count); counted = omega (arith, g .counted); reached = as-is (heard-made w here rest) (heard-pairs l here rest) (g .reached) })
 
 module _ (words : List ℕ) (k : Mem) (bytes : List ℕ) where
   abbrev came : Progress

@@ -2,7 +2,7 @@
 use mathlib.Core.Path.{_≡_, refl, sym, ap, _∙_}
 use mathlib.Core.Bool.{Bool, true, false, cond}
 use mathlib.Core.List.{List, [], _∷_, _++_}
-use Prim.Native.Nat.{ℕ, zero, suc, _+_, _≤_}
+use Prim.Native.Nat.{ℕ, _+_, _≤_}
 use lib.Dec.{eqb}
 use lib.ListN.{length, take, drop}
 use borrow.Author.Tests.{eqb-true, eqb-false}
@@ -17,9 +17,9 @@ use Rattle.property_writer.specs.WritingLaws.{accepted, refused as untouched}
 use Rattle.property_reader.specs.Reading.{reading}
 use Rattle.properties.specs.RoundTrip.{Property, Wrote, none, one-more, Typed, valuesFrom, saying, joined, bytes-joined, text-there, round-trip}
 use Rattle.writing.specs.declared.state.State.{State}
-use Rattle.writing.specs.State.{Mem, Outcome}
+use Rattle.writing.specs.State.{Mem}
 use Rattle.writing.specs.Calls.{started, eventCall, finishCall, nextCall}
-use Rattle.runs.specs.Events.{Progress, progress, took, recordOf, recordsIn, eventsFrom, eventsCall}
+use Rattle.runs.specs.Events.{recordOf, recordsIn, eventsFrom, eventsCall, by-records}
 use Rattle.writer.specs.Property.{propertyCall}
 use Rattle.as_words.specs.Words.{stateOf, wordsAfter}
 use Rattle.as_words.specs.WordLaws.{state-words}
@@ -54,19 +54,7 @@ module _ (words : List ℕ) (k : Mem) where
       go false is = ap (λ (s : State). s .properties) (unchanged (stateOf words) k c (eqb-false _ 0 is) .state)
 
 all-count : (bytes : List ℕ) (left i : ℕ) (s : State) (k : Mem) → eventsFrom left i bytes s k .took .state .properties ≡ s .properties
-unfolding eventsFrom
-all-count bytes zero i s k = refl
-all-count bytes (suc left) i s k = go (eqb (o .wrote .number) 0) refl (all-count bytes left (i + 1) (o .wrote .state) (o .mem))
-  where
-    o : Outcome
-    o = eventCall s k (recordOf bytes i)
-
-    onward : Progress
-    onward = eventsFrom left (i + 1) bytes (o .wrote .state) (o .mem)
-
-    go : (b : Bool) → eqb (o .wrote .number) 0 ≡ b → onward .took .state .properties ≡ o .wrote .state .properties → cond b onward (progress (took (o .wrote .number) i s) k) .took .state .properties ≡ s .properties
-    go true is more = more ∙ properties-after s k (eventC (recordOf bytes i)) (eqb-true _ 0 is)
-    go false is more = refl
+all-count bytes = by-records bytes (λ i s k p. p .took .state .properties ≡ s .properties) (λ number i s k. refl) (λ i s k p taken more. more ∙ properties-after s k (eventC (recordOf bytes i)) taken)
 
 events-count : (words : List ℕ) (k : Mem) (bytes : List ℕ) → stateOf (takenOf words (eventsCall (stateOf words) k bytes) .words) .properties ≡ stateOf words .properties
 unfolding takenOf eventsCall
