@@ -14,7 +14,7 @@ use Rattle.decimal.specs.Rounding.{halfToEven}
 use Rattle.decimal.specs.RoundingLaws.{whole, at-most, one-more, common-factor, apart, moved}
 use Rattle.decimal.specs.Magnitude.{tenMillionths, cut, told}
 
--- A mantissa stays within a word where it goes up by `most` bits, and leaves it where it goes up further.
+-- A mantissa goes up by `most` bits within a word, and out of it by more.
 pub record Held (mantissa exponent point most : ℕ) : Type 0 where
   pub few : most < 64
   pub short : mantissa < 2 ^ 63
@@ -44,9 +44,9 @@ cut-full w f h = λ i. record { whole = before i; fraction = behind i }
 
 -- ---- bits behind the point
 -- A whole part and the bits below it, moved to the top of a word.
-pub pointed : (m bits : ℕ) → bits < 64
+pub parted : (m bits : ℕ) → bits < 64
     → m / 2 ^ bits * 10000000 + halfToEven (m * 2 ^ (64 - bits) % 2 ^ 64 * 10000000) (2 ^ 64) ≡ halfToEven (m * 10000000) (2 ^ bits)
-pointed m bits h =
+parted m bits h =
     ap (λ (x : ℕ). m / 2 ^ bits * 10000000 + x) same-fraction
     ∙ sym (apart (m / 2 ^ bits) (m % 2 ^ bits) (2 ^ bits) (pow-pos bits))
     ∙ ap (λ (x : ℕ). halfToEven (x * 10000000) (2 ^ bits)) (split m bits)

@@ -38,7 +38,7 @@ fn with_point(mantissa: u64, bits: u64) -> Decimal
     carried(0, ten_millionths(mantissa, bits))
 }
 
-// A mantissa is whole at the exponent `point`, fills at most a word where it goes up by `most` bits, and fills it where it goes further.
+// A mantissa is whole at the exponent `point`. From there it goes up by `most` bits within a word, and out of it by more.
 pub fn finite(mantissa: u64, exponent: u64, point: u64, most: u64) -> Magnitude
     requires { ⌜ Held mantissa exponent point most ⌝ }
     ensures { λ r. ⌜ r ≡ told (tenMillionths point mantissa exponent) ⌝ }

@@ -5,7 +5,7 @@ use native.Mathlib.Omega.{arith}
 use lib.Pow.{shr-le}
 use borrow.Author.Needs.{needs}
 use Rattle.decimal.specs.Magnitude.{cut}
-use Rattle.decimal.specs.FiniteLaws.{pointed, at-most-one}
+use Rattle.decimal.specs.FiniteLaws.{parted, at-most-one}
 use Rattle.decimal.proofs.finite.with_point.Statement.{statement}
 use Rattle.decimal.proofs.finite.with_point.Tie as tie
 
@@ -21,7 +21,7 @@ returns c =
     let args = c .before .before .before .args in
     c .carried .ensures
     ∙ ap (λ (x : ℕ). cut (args .mantissa / 2 ^ args .bits * 10000000 + x)) (c .before .ten-millionths .ensures)
-    ∙ ap cut (pointed (args .mantissa) (args .bits) (c .before .before .if1 .taken))
+    ∙ ap cut (parted (args .mantissa) (args .bits) (c .before .before .if1 .taken))
 
 carried-requires-2 : tie.Need-carried-requires-2
 carried-requires-2 c κs =
