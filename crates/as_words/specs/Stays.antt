@@ -1,8 +1,8 @@
 -- The calls keep a state's three bytes bytes, so the words that a call leaves hold the very state that it hands back.
-use mathlib.Core.Path.{_≡_, refl, sym, ap, _∙_}
+use mathlib.Core.Path.{_≡_, refl, sym, _∙_}
 use mathlib.Core.Bool.{Bool, true, false, cond, not, _&&_, _||_}
 use mathlib.Core.List.{List}
-use Prim.Native.Nat.{ℕ, zero, suc, _+_, _*_, _%_, _≤_, _<_}
+use Prim.Native.Nat.{ℕ, _+_, _≤_, _<_}
 use native.Mathlib.Omega.{arith}
 use lib.Dec.{ltb, leb, eqb}
 use borrow.Author.Tests.{ltb-true, eqb-true, eqb-false}
@@ -24,9 +24,8 @@ use Rattle.writing.specs.declared.state.Wrote.{Wrote}
 use Rattle.writing.specs.State.{Mem, Outcome, wrote}
 use Rattle.pending.specs.Room.{hasRoom}
 use Rattle.writing.specs.Calls.{started, recordsFor, stateAfter, roomOr, decideTyped, decideEvent, eventWith, eventOf, eventCall, finished, decideFinish, finishCall, renewed, decideNext, nextCall}
-use Rattle.runs.specs.declared.took.Took.{Took}
 use Rattle.runs.specs.Events.{Progress, recordOf, recordsIn, eventsFrom, eventsCall, by-records}
-use Rattle.as_words.specs.Words.{byteOf, typingOf, stateOf, wordsOf, wordsAfter, wordsAfterAll}
+use Rattle.as_words.specs.Words.{typingOf, stateOf, wordsOf, wordsAfter, wordsAfterAll}
 use Rattle.as_words.specs.WordLaws.{InBytes, state-words, done-state, refused-state}
 
 -- ---- what an event asks for
@@ -90,7 +89,7 @@ module _ (h : Typing) (e : Event) (bytes : InBytes h) where
   begin-or true a is k added part = begun-bytes (ltb-true (e .kind) 32 is)
   begin-or false a is k added part = k
 
-  pub asked-bytes : Asked (askOf h e)
+  asked-bytes : Asked (askOf h e)
   unfolding askOf
   asked-bytes =
       begin-or (ltb (e .kind) 32) _ refl
@@ -138,9 +137,9 @@ module _ (s : State) (bytes : Bytes s) where
   heard-bytes k Malformed = bytes
   heard-bytes k (WellFormed e) = decided-bytes (askOf (s .typing) e) (recordsLent (k .table)) (lentOf (k .pools)) (asked-bytes (s .typing) e bytes)
 
-  pub event-bytes : (k : Mem) (records : List ℕ) → Bytes (eventCall s k records .wrote .state)
+  pub event-bytes : (k : Mem) (event : List ℕ) → Bytes (eventCall s k event .wrote .state)
   unfolding eventCall
-  event-bytes k records = heard-bytes k (heard records)
+  event-bytes k event = heard-bytes k (heard event)
 
   pub finish-bytes : (k : Mem) → Bytes (finishCall s k .wrote .state)
   unfolding finishCall decideFinish finished
@@ -158,7 +157,7 @@ pub started-bytes : (declared : ℕ) (detect promote : Bool) → declared < 256 
 unfolding started
 started-bytes declared detect promote small = record { declared = small; current = omega arith; mode = omega arith }
 
--- whatever the words are, they are bytes of a state
+-- whatever the words are, the typing that they hold is of bytes
 pub words-bytes : (words : List ℕ) → Bytes (stateOf words)
 unfolding stateOf typingOf
 words-bytes words = record { declared = omega arith; current = omega arith; mode = omega arith }

@@ -47,7 +47,7 @@ pub record Repeats (type : ℕ) (f : Simple) (m : Mem) : Type 0 where
       → Said events (readS noFlags (recordWith (m .table) (m .pools)) type) L number count M → Complete events (eventsOf noFlags 0 f) L number count M
   -- no table and pools whatsoever that read to these events hold less
   pub least : (table : List ℕ) (P : Pools) → readS noFlags (recordWith table P) type ≡ told (eventsOf noFlags 0 f) → treeSize (m .table) (m .pools) ≤ treeSize table P
-  -- nor do any whose reading leaves these very records in a log; both are pools of words, as whatever is lent is
+  -- nor do any whose reading is done and leaves just these records in a log; both are pools of words, as whatever is lent is
   pub least-logged : InWords (m .pools) → (table : List ℕ) (P : Pools) → InWords P → (L : List ℕ) (number count : ℕ) (M : List ℕ)
       → Said events (readS noFlags (recordWith table P) type) L number count M → Complete events (eventsOf noFlags 0 f) L number count M → treeSize (m .table) (m .pools) ≤ treeSize table P
 

@@ -152,26 +152,25 @@ module _ (p : Program) (meets : Meets p) where
       let z : _≡_ {A = ℕ} 0 2 = ap endCount (sym (polygon-left (blank 1 8 1) (polygon (four ∷ [])) (b1-called .0) _ (b1-called .1 .0)) ∙ one ∙ sym two ∙ polygon-left (blank 1 16 2) (polygon (four ∷ four ∷ [])) (b2-called .0) _ (b2-called .1 .0)) in
       omega arith
 
-  -- ---- one honest only for its first feature: no record of what it leaves of a second has the second's pairs
-  pub first-feature-alone : ((k : Mem) (one two : List Event) (n : ℕ) (r : Rec) (carried : List ℕ)
-      → let o = passedBy p (startedWords 7) k one in recordLeft (finishedBy p (o .words) (o .mem) two) n ≡ some r → r .xy ≡ some (carried ++ pairsOf two) → ⊥) → ⊥
+  -- ---- one honest only for its first feature: this second feature's pair, behind the one that is carried in, is not in record 1
+  pub first-feature-alone : ((r : Rec) → let o = passedBy p (startedWords 7) Example.blank first in recordLeft (finishedBy p (o .words) (o .mem) second) 1 ≡ some r → r .xy ≡ some (3 ∷ 4 ∷ pairsOf second) → ⊥) → ⊥
   unfolding beginE xyE endE
   first-feature-alone loses =
       let s = started 7 false false in
       let c = passed-comes (startedWords 7) Example.blank s Example.blank (fresh 7 false false) [] first (record { state = started-state 7 (omega arith); mem = refl }) all-taken (start 7 false false Example.blank) goes-on in
       let d = finished-comes _ _ again over _ _ second (record { state = c .state; mem = c .mem }) again-taken first-over in
-      loses Example.blank first second 1 (rec 1 (3 ∷ 4 ∷ 5 ∷ 6 ∷ []) none) (3 ∷ 4 ∷ []) (rw (d .mem) (second-read .1 .0)) refl
+      loses (rec 1 (3 ∷ 4 ∷ 5 ∷ 6 ∷ []) none) (rw (d .mem) (second-read .1 .0)) refl
 
--- ---- a reader that does nothing: B1's tree has something to say
-something-said : (s rest : Script Event) (e : Event) (L : List ℕ) → s ≡ say e rest → 1 ≤ roomOf 64 L → Said events s L 0 0 L → ⊥
+-- ---- a reader that says nothing, whatever it answers and leaves: B1's tree has something to say
+something-said : (s rest : Script Event) (e : Event) (L : List ℕ) (number : ℕ) (M : List ℕ) → s ≡ say e rest → 1 ≤ roomOf 64 L → Said events s L number 0 M → ⊥
 unfolding events recordsOf
-something-said s rest e L q room said =
+something-said s rest e L number M q room said =
     let n : 0 ≡ length (take (roomOf 64 L) (e ∷ recordsOf rest)) = rw q at (said .count-is) in
     omega (arith, n, length-take (roomOf 64 L) (e ∷ recordsOf rest))
 
-pub reads-nothing : (L : List ℕ) → 1 ≤ roomOf 64 L
-    → (let k = finishedMem (started 3 false false) (blank 1 8 1) (polygon (four ∷ [])) in Said events (readS noFlags (recordWith (k .table) (k .pools)) 3) L 0 0 L) → ⊥
-reads-nothing L room said = something-said _ _ _ L (b1 .1) room said
+pub reads-nothing : (L : List ℕ) (number : ℕ) (M : List ℕ) → 1 ≤ roomOf 64 L
+    → (let k = finishedMem (started 3 false false) (blank 1 8 1) (polygon (four ∷ [])) in Said events (readS noFlags (recordWith (k .table) (k .pools)) 3) L number 0 M) → ⊥
+reads-nothing L number M room said = something-said _ _ _ L number M (b1 .1) room said
 
 -- ---- a record count that isn't the log's
 pub another-count : (F : Flags) (table : List ℕ) (P : Pools) (declared : ℕ) (L : List ℕ) (number count another : ℕ) (M : List ℕ)

@@ -33,8 +33,9 @@ use Rattle.as_words.specs.Words.{stateOf, wordsOf}
 use Rattle.as_words.specs.WordLaws.{state-words}
 use Rattle.as_words.specs.Stays.{started-bytes}
 use Rattle.bintolage.specs.Calls.{yes, keptOf, takenOf}
-use Rattle.writer_model.specs.Writer.{Writer, fresh}
+use Rattle.writer_model.specs.Writer.{fresh}
 use Rattle.writer_model.specs.BenchCalls.{blank}
+use Rattle.writer_model.specs.Example.{start-agrees}
 use Rattle.writer_model.specs.Call.{eventC, finishC, nextC}
 use Rattle.writer_model.specs.Pairs.{pairOf, pendingAt}
 use Rattle.writer_model.specs.Rows.{Reached, start as begins}
@@ -43,8 +44,9 @@ use Rattle.writer_model.specs.Fed.{given, takes, fedTo, fedMem, pairsOf, first-
 use Rattle.geometry.specs.Geometry.{Coord, Line, Simple, polygon, multiPolygon}
 use Rattle.geometry.specs.Events.{eventsOf}
 use Rattle.format.specs.Writable.{All, Has, a-polygon, many-polygons}
-use Rattle.claims.specs.Row.{Lends, lends, event, events as many, property, finish, next, leaves, accepts, heardFrom, Accepted, nothing, withEvents, withProperty, withFinish, withNext, tookAll, put, bytesPut, Row, start, call, refused}
-use Rattle.claims.specs.Linked.{made, call-state, put-state, refused-state, row-reached}
+use Rattle.least.specs.Sized.{InWords, words-tested}
+use Rattle.claims.specs.Row.{Lends, lends, event, events as many, property, finish, next, leaves, accepts, heardFrom, Accepted, nothing, withEvents, withProperty, withFinish, withNext, tookAll, put, bytesPut, Row, start, lent, call, untaken}
+use Rattle.claims.specs.Linked.{made, call-state, put-state, untaken-state, row-reached}
 use Rattle.claims.specs.Demand.{Demanded, AllDemanded, Repeats, featureSteps, passed, demand-three}
 
 -- ---- a row that comes to a state
@@ -85,8 +87,17 @@ module _ (declared detect promote : ℕ) where
   unfolding keptOf
   at-refused {l = l} k nay r = record {
     words = _;
-    holds = refused-state declared detect promote (r .words) (lends k (l .buffer)) (event []) (rw (r .holds) nay) ∙ r .holds;
-    row = refused {words = r .words} (lends k (l .buffer)) (event []) (rw (r .holds) nay) (r .row);
+    holds = untaken-state (r .words) (lends k (l .buffer)) (event []) (rw (r .holds) nay) ∙ r .holds;
+    row = untaken {words = r .words} (lends k (l .buffer)) (event []) (rw (r .holds) nay) (r .row);
+  }
+
+  -- a fresh state uses nothing, so whatever is lent next will do
+  at-lent : {l : Lends} {a : Accepted} (l′ : Lends) → At (started declared (yes detect) (yes promote)) l a → At (started declared (yes detect) (yes promote)) l′ a
+  unfolding started
+  at-lent {l} l′ r = record {
+    words = r .words;
+    holds = r .holds;
+    row = lent {words = r .words} {l = l} l′ (record { mem = rw (r .holds) (start-agrees declared (yes detect) (yes promote) (l .mem) (l′ .mem)); properties = rw (r .holds) }) (r .row);
   }
 
   at-property : {s : State} {l : Lends} {a : Accepted} (p : Property) → propertyCall s (p .column) (p .kind) (p .bits) (p .text) (l .buffer) .number ≡ 0 → At s l a
@@ -241,8 +252,15 @@ blocks-ok = refl
 
 pub blocks-repeat : Repeats 6 blocks (finishedMem after-depth wide (eventsOf noFlags 0 blocks))
 blocks-repeat =
-    let begun-row = at-refused 6 0 0 (blank 0 0 0) (no-event (blank 0 0 0)) (at-start 6 0 0 (lends wide fresh-buffer) (omega arith)) in
+    let begun-row = at-lent 6 0 0 (lends wide fresh-buffer) (at-refused 6 0 0 (blank 0 0 0) (no-event (blank 0 0 0)) (at-start 6 0 0 (lends (blank 0 0 0) []) (omega arith))) in
     repeats 6 0 0 (eventsOf noFlags 0 blocks) after-depth wide _ _ blocks-ok (at-property 6 0 0 depth depth-taken begun-row) [] blocks tt blocks-demanded refl refl
+
+-- what the first field is read from is words
+pub field-words : InWords (finishedMem begin room first .pools)
+unfolding eventsOf started askOf begun setType hasRoom grownAll pastAll stateAfter decideEvent eventWith memAfter tableAfter finishCall decideFinish beginE endE xyE
+field-words =
+    let P = finishedMem begin room first .pools in
+    record { xy = words-tested (P .xy) refl; z = words-tested (P .z) refl; m = words-tested (P .m) refl; t = words-tested (P .t) refl; tm = words-tested (P .tm) refl }
 
 -- ---- many events in one call: a Point's three, and then the begin of a Polygon, which is refused with 5
 abbrev point-events : List Event

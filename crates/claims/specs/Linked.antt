@@ -20,7 +20,7 @@ use Rattle.writing.specs.State.{Mem, Outcome}
 use Rattle.writing.specs.Calls.{started, eventCall, finishCall, nextCall}
 use Rattle.runs.specs.Events.{Progress, recordOf, recordsIn, eventsFrom, eventsCall, by-records}
 use Rattle.writer.specs.Property.{propertyCall}
-use Rattle.as_words.specs.Words.{stateOf, wordsOf, wordsAfter, wordsAfterAll}
+use Rattle.as_words.specs.Words.{stateOf, wordsAfter, wordsAfterAll}
 use Rattle.as_words.specs.WordLaws.{InBytes, state-words}
 use Rattle.as_words.specs.Stays.{event-bytes, finish-bytes, next-bytes, started-bytes, words-bytes, kept-state, taken-state, untaken-same}
 use Rattle.bintolage.specs.Calls.{yes, keptOf, takenOf}
@@ -28,11 +28,10 @@ use Rattle.writer_model.specs.Writer.{Writer, fresh, after, afterAll, rootOver,
 use Rattle.writer_model.specs.Call.{Call as Inner, eventC, finishC, nextC, called, hears, afterCall}
 use Rattle.writer_model.specs.Refused.{refused as unchanged}
 use Rattle.writer_model.specs.Pairs.{pairOf, partsXy, allXyAt}
-use Rattle.writer_model.specs.Fed.{pairsOf}
 use Rattle.writer_model.specs.Rows.{pairIn, pairsAfter, Reached, start as begin, lent as changed, accepted, property as written, row-pairs, accepted-pairs}
 use Rattle.writer_model.specs.Tree.{Holds, row-tree}
-use Rattle.writer_model.specs.Fed.{agrees-self}
-use Rattle.claims.specs.Row.{Call, event, events, property, finish, next, Lends, Step, took, finished, renewed, tookAll, Accepted, withEvents, withProperty, withFinish, withNext, carriedBy, heardIn, heardFrom, put, leaves, accepts, Refused, Row, start, lent, call, refused}
+use Rattle.writer_model.specs.Fed.{agrees-self, pairsOf}
+use Rattle.claims.specs.Row.{Call, event, events, property, finish, next, Lends, Step, took, finished, renewed, tookAll, Accepted, withEvents, withProperty, withFinish, withNext, carriedBy, heardIn, heardFrom, put, leaves, accepts, Untaken, Row, start, lent, call, untaken}
 
 -- ---- the writer on lists, after steps
 abbrev pub made : Writer → List Step → Writer
@@ -128,6 +127,15 @@ module _ (words : List ℕ) (p : Property) (buffer : List ℕ) where
   unfolding propertyCall
   put-reached r = rw put-state (written _ r)
 
+-- ---- a call of which nothing is taken leaves the state, whatever it was lent
+pub untaken-state : (words : List ℕ) (l : Lends) (c : Call) → Untaken words l c → stateOf (leaves words l c .words) ≡ stateOf words
+unfolding keptOf takenOf
+untaken-state words l (event bytes) h = call-state words (l .mem) (eventC bytes) ∙ unchanged (stateOf words) (l .mem) (eventC bytes) h .state
+untaken-state words l (events bytes) h = taken-state words bytes (l .mem) ∙ untaken-same words bytes (l .mem) h .0
+untaken-state words l (property p) h = put-state words p (l .buffer) ∙ put-unchanged words p (l .buffer) h
+untaken-state words l finish h = call-state words (l .mem) finishC ∙ unchanged (stateOf words) (l .mem) finishC h .state
+untaken-state words l next h = call-state words (l .mem) nextC ∙ unchanged (stateOf words) (l .mem) nextC h .state
+
 -- ---- any row
 module _ (declared detect promote : ℕ) where
   abbrev pub first : Writer
@@ -179,36 +187,27 @@ module _ (declared detect promote : ℕ) where
         go true is = as-is (sym (made-then first (a .steps) (renewed ∷ []))) refl (call-done words (l .mem) nextC r (eqb-true (o .wrote .number) 0 is))
         go false is = call-refused words (l .mem) nextC r (eqb-false (o .wrote .number) 0 is)
 
-  -- a refused call, whatever it was lent, leaves the state
-  pub refused-state : (words : List ℕ) (l : Lends) (c : Call) → Refused words l c → stateOf (leaves words l c .words) ≡ stateOf words
-  unfolding keptOf takenOf
-  refused-state words l (event bytes) h = call-state words (l .mem) (eventC bytes) ∙ unchanged (stateOf words) (l .mem) (eventC bytes) h .state
-  refused-state words l (events bytes) h = taken-state words bytes (l .mem) ∙ untaken-same words bytes (l .mem) h .0
-  refused-state words l (property p) h = put-state words p (l .buffer) ∙ put-unchanged words p (l .buffer) h
-  refused-state words l finish h = call-state words (l .mem) finishC ∙ unchanged (stateOf words) (l .mem) finishC h .state
-  refused-state words l next h = call-state words (l .mem) nextC ∙ unchanged (stateOf words) (l .mem) nextC h .state
-
   -- after any row the lent memory is what a row of the writer's calls leaves: the writer on lists has taken the accepted steps
   pub row-reached : {words : List ℕ} {l : Lends} {a : Accepted} → Row declared detect promote words l a → Reached (stateOf words) (l .mem) (made first (a .steps)) (a .pairs)
   row-reached (start l small) = rw (state-words (started declared (yes detect) (yes promote)) (started-bytes declared (yes detect) (yes promote) small)) (begin declared (yes detect) (yes promote) (l .mem))
   row-reached (lent l′ same row) = changed (l′ .mem) (same .mem) (row-reached row)
   row-reached (call {words} {l} {a} c row) = call-then words l a (row-reached row) c
-  row-reached (refused {words} l′ c h row) = rw (refused-state words l′ c h) (row-reached row)
+  row-reached (untaken {words} l′ c h row) = rw (untaken-state words l′ c h) (row-reached row)
 
   -- the accepted pairs since next, after those carried in, are the parts' xy lists joined in order, then the pending list
   pub linked-pairs : {words : List ℕ} {l : Lends} {a : Accepted} → Row declared detect promote words l a → stateOf words .waiting ≡ false → partsXy (stateOf words) (l .mem) ≡ a .pairs
   linked-pairs row going = accepted-pairs (row-reached row) going
 
-  -- while a finished feature waits, the root's list comes first
-  pub linked-words : {words : List ℕ} {l : Lends} {a : Accepted} → Row declared detect promote words l a → allXyAt (stateOf words) (l .mem) ≡ a .pairs
-  linked-words row = row-pairs (row-reached row)
+  -- waiting or not, all the xy lists in use: the root's comes first while a finished feature waits
+  pub linked-all-pairs : {words : List ℕ} {l : Lends} {a : Accepted} → Row declared detect promote words l a → allXyAt (stateOf words) (l .mem) ≡ a .pairs
+  linked-all-pairs row = row-pairs (row-reached row)
 
-  -- then the lent memory holds that feature's tree
+  -- while a finished feature waits, a table of whole records holds its tree
   pub linked-tree : {words : List ℕ} {l : Lends} {a : Accepted} → Row declared detect promote words l a → (root : Rec) → made first (a .steps) .root ≡ some root
       → tableGood (l .mem .table) ≡ true → Holds (recordWith (l .mem .table) (l .mem .pools)) 0 (root ∷ made first (a .steps) .parts)
   linked-tree {words} {l} row root waits whole = row-tree (row-reached row) root waits (l .mem) (agrees-self (stateOf words) (l .mem)) whole
 
-  -- right after an accepted finish
+  -- from an accepted finish until next
   pub finished-tree : {words : List ℕ} {l : Lends} {a : Accepted} → Row declared detect promote words l a → (w : Writer) → made first (a .steps) ≡ finishW w
       → tableGood (l .mem .table) ≡ true → Holds (recordWith (l .mem .table) (l .mem .pools)) 0 (tree w)
   unfolding finishW

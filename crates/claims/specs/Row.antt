@@ -1,4 +1,4 @@
--- SPEC 11.4: a row of the calls that a machine links, from start on, in any order, accepted or refused, and what of it was accepted.
+-- SPEC 11.4: a row of the calls that a machine links, from start on, in any order, accepted or refused, and what of it was accepted. Read, read_properties and box take no state and only read what is lent, so they are no steps of a row.
 use mathlib.Core.Path.{_≡_}
 use mathlib.Core.Bool.{cond}
 use mathlib.Core.List.{List, [], _∷_, _++_}
@@ -40,8 +40,8 @@ pub record Left : Type 0 where
   pub words : List ℕ
   pub lends : Lends
 
-abbrev pub taken : List ℕ → Mem → List ℕ → Taken
-taken words k bytes = takenOf words (eventsCall (stateOf words) k bytes)
+abbrev pub takenBy : List ℕ → Mem → List ℕ → Taken
+takenBy words k bytes = takenOf words (eventsCall (stateOf words) k bytes)
 
 abbrev pub put : List ℕ → Property → List ℕ → Wrote
 put words p buffer = propertyCall (stateOf words) (p .column) (p .kind) (p .bits) (p .text) buffer
@@ -55,7 +55,7 @@ keeps buffer o = record { number = o .number; words = o .words; lends = lends (o
 
 abbrev pub leaves : List ℕ → Lends → Call → Left
 leaves words l (event bytes) = keeps (l .buffer) (keptOf words (eventCall (stateOf words) (l .mem) bytes))
-leaves words l (events bytes) = let o = taken words (l .mem) bytes in record { number = o .number; words = o .words; lends = lends (o .mem) (l .buffer) }
+leaves words l (events bytes) = let o = takenBy words (l .mem) bytes in record { number = o .number; words = o .words; lends = lends (o .mem) (l .buffer) }
 leaves words l (property p) = let r = put words p (l .buffer) in record { number = r .number; words = wordsAfter words r; lends = lends (l .mem) (bytesPut words p (l .buffer)) }
 leaves words l finish = keeps (l .buffer) (keptOf words (finishCall (stateOf words) (l .mem)))
 leaves words l next = keeps (l .buffer) (keptOf words (nextCall (stateOf words) (l .mem)))
@@ -108,27 +108,27 @@ ifDone o then a = cond (eqb (o .number) 0) then a
 -- of many events, those before the first that was refused
 abbrev pub accepts : List ℕ → Lends → Call → Accepted → Accepted
 accepts words l (event bytes) a = ifDone (leaves words l (event bytes)) (withEvents a (heardIn (heard bytes))) a
-accepts words l (events bytes) a = withEvents a (heardFrom (taken words (l .mem) bytes .taken) 0 bytes)
+accepts words l (events bytes) a = withEvents a (heardFrom (takenBy words (l .mem) bytes .taken) 0 bytes)
 accepts words l (property p) a = ifDone (leaves words l (property p)) (withProperty a p) a
 accepts words l finish a = ifDone (leaves words l finish) (withFinish a) a
 accepts words l next a = ifDone (leaves words l next) (withNext a (carriedBy words (l .mem))) a
 
--- a call of which nothing was accepted
-abbrev pub Refused : List ℕ → Lends → Call → Type 0
-Refused words l (event bytes) = leaves words l (event bytes) .number ≡ 0 → ⊥
-Refused words l (events bytes) = taken words (l .mem) bytes .taken ≡ 0
-Refused words l (property p) = leaves words l (property p) .number ≡ 0 → ⊥
-Refused words l finish = leaves words l finish .number ≡ 0 → ⊥
-Refused words l next = leaves words l next .number ≡ 0 → ⊥
+-- a call of which nothing was taken
+abbrev pub Untaken : List ℕ → Lends → Call → Type 0
+Untaken words l (event bytes) = leaves words l (event bytes) .number ≡ 0 → ⊥
+Untaken words l (events bytes) = takenBy words (l .mem) bytes .taken ≡ 0
+Untaken words l (property p) = leaves words l (property p) .number ≡ 0 → ⊥
+Untaken words l finish = leaves words l finish .number ≡ 0 → ⊥
+Untaken words l next = leaves words l next .number ≡ 0 → ⊥
 
 -- ---- what the state uses of the lent memory, and as many property bytes as it counts, are the same in both
-pub record Same (words : List ℕ) (l l′ : Lends) : Type 0 where
+pub record SameLent (words : List ℕ) (l l′ : Lends) : Type 0 where
   pub mem : Agrees (stateOf words) (l .mem) (l′ .mem)
   pub properties : take (stateOf words .properties) (l′ .buffer) ≡ take (stateOf words .properties) (l .buffer)
 
--- between calls all else may change, every lent length too; a call of which nothing is accepted may be lent anything
+-- between calls all else may change, every lent length too; a call of which nothing is taken may be lent anything
 pub data Row (declared detect promote : ℕ) : List ℕ → Lends → Accepted → Type 0 where
   start : (l : Lends) → declared < 256 → Row declared detect promote (wordsOf (started declared (yes detect) (yes promote))) l nothing
-  lent : {words : List ℕ} {l : Lends} {a : Accepted} (l′ : Lends) → Same words l l′ → Row declared detect promote words l a → Row declared detect promote words l′ a
+  lent : {words : List ℕ} {l : Lends} {a : Accepted} (l′ : Lends) → SameLent words l l′ → Row declared detect promote words l a → Row declared detect promote words l′ a
   call : {words : List ℕ} {l : Lends} {a : Accepted} (c : Call) → Row declared detect promote words l a → Row declared detect promote (leaves words l c .words) (leaves words l c .lends) (accepts words l c a)
-  refused : {words : List ℕ} {l : Lends} {a : Accepted} (l′ : Lends) (c : Call) → Refused words l′ c → Row declared detect promote words l a → Row declared detect promote (leaves words l′ c .words) l a
+  untaken : {words : List ℕ} {l : Lends} {a : Accepted} (l′ : Lends) (c : Call) → Untaken words l′ c → Row declared detect promote words l a → Row declared detect promote (leaves words l′ c .words) l a

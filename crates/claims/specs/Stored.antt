@@ -6,16 +6,16 @@ use Prim.Native.Nat.{ℕ, _+_, _≤_}
 use lib.Dec.{eqb}
 use lib.ListN.{length, take, drop}
 use borrow.Author.Tests.{eqb-true, eqb-false}
-use Rattle.laws.specs.Script.{say, out, run}
-use Rattle.laws.specs.Cut.{roomOf, said}
+use Rattle.laws.specs.Script.{say}
+use Rattle.laws.specs.Cut.{roomOf, Said}
 use Rattle.kinds.specs.declared.value.Value.{Value}
 use Rattle.log.specs.Log.{heard}
 use Rattle.log.specs.Values.{values}
 use Rattle.geometry.specs.Told.{told, Complete, said-complete}
-use Rattle.property_writer.specs.Writing.{putOf, bytesAfter}
+use Rattle.property_writer.specs.Writing.{putOf}
 use Rattle.property_writer.specs.WritingLaws.{accepted, refused as untouched}
 use Rattle.property_reader.specs.Reading.{reading}
-use Rattle.properties.specs.RoundTrip.{Property, Wrote, none, one-more, Typed, valuesFrom, saying, joined, bytes-joined, text-there, round-trip}
+use Rattle.properties.specs.RoundTrip.{Property, Wrote, none, one-more, Typed, bytesOf, valuesFrom, valueAfter, saying, joined, bytes-joined, text-there, round-trip}
 use Rattle.writing.specs.declared.state.State.{State}
 use Rattle.writing.specs.State.{Mem}
 use Rattle.writing.specs.Calls.{started, eventCall, finishCall, nextCall}
@@ -28,8 +28,8 @@ use Rattle.bintolage.specs.Calls.{yes, keptOf, takenOf}
 use Rattle.writer_model.specs.Call.{Call as Inner, eventC, finishC, nextC, called}
 use Rattle.writer_model.specs.Properties.{propertiesAfter, properties-after}
 use Rattle.writer_model.specs.Refused.{refused as unchanged}
-use Rattle.claims.specs.Row.{Call, event, events, property, finish, next, Lends, Accepted, withEvents, withProperty, withFinish, withNext, carriedBy, heardIn, put, bytesPut, leaves, accepts, Row, start, lent, call, refused}
-use Rattle.claims.specs.Linked.{call-state, put-state, put-unchanged, refused-state}
+use Rattle.claims.specs.Row.{Call, event, events, property, finish, next, Lends, Accepted, withEvents, withProperty, withFinish, withNext, carriedBy, heardIn, put, bytesPut, leaves, accepts, Row, start, lent, call, untaken}
+use Rattle.claims.specs.Linked.{call-state, put-state, put-unchanged, untaken-state}
 
 -- so many bytes of the buffer are those of a row of writes
 record Stored (buffer : List ℕ) (used : ℕ) (ps : List Property) : Type 0 where
@@ -120,27 +120,28 @@ module _ (declared detect promote : ℕ) where
   row-stored (start l small) = empty (l .buffer) (ap (λ (s : State). s .properties) (state-words (started declared (yes detect) (yes promote)) (started-bytes declared (yes detect) (yes promote) small)))
   row-stored (lent l′ same row) = let h = row-stored row in record { before = h .before; after = h .after; wrote = h .wrote; same = same .properties ∙ h .same }
   row-stored (call {words} {l} {a} c row) = call-then words l a (row-stored row) c
-  row-stored (refused {words} l′ c nay row) = counts (ap (λ (s : State). s .properties) (sym (refused-state declared detect promote words l′ c nay))) (row-stored row)
+  row-stored (untaken {words} l′ c nay row) = counts (ap (λ (s : State). s .properties) (sym (untaken-state words l′ c nay))) (row-stored row)
 
   module _ {words : List ℕ} {l : Lends} {a : Accepted} (row : Row declared detect promote words l a) where
-    abbrev pub propertyBytes : List ℕ
-    propertyBytes = take (stateOf words .properties) (l .buffer)
+    abbrev pub storedBytes : List ℕ
+    storedBytes = take (stateOf words .properties) (l .buffer)
 
-    pub linked-properties : propertyBytes ≡ joined (a .properties)
+    pub linked-properties : storedBytes ≡ joined (a .properties)
     linked-properties = let h = row-stored row in h .same ∙ bytes-joined (h .wrote)
 
     -- a text is found where its value says
-    pub linked-text : (before : List Property) (p : Property) (behind : List Property) → a .properties ≡ before ++ p ∷ behind → 11 ≤ p .kind → take (length (p .text)) (drop (length (joined before) + 6) propertyBytes) ≡ p .text
+    pub linked-text : (before : List Property) (p : Property) (behind : List Property) → a .properties ≡ before ++ p ∷ behind → 11 ≤ p .kind
+        → (let v = valueAfter before p in (valuesFrom 0 (a .properties) ≡ valuesFrom 0 before ++ v ∷ valuesFrom (length (joined before) + length (bytesOf p)) behind) × (take (v .len) (drop (v .word) storedBytes) ≡ p .text))
     linked-text before p behind is text = rw (linked-properties, is) (text-there before p behind text)
 
     -- read with the columns' own types, from a log with room, the values come in order, and nothing else
     pub linked-values : (columns : List ℕ) (last : ℕ) (L : List ℕ) (number count : ℕ) (M : List ℕ) → Typed columns (a .properties) → 65536 ≤ last → length (valuesFrom 0 (a .properties)) ≤ roomOf 16 L
-        → run values (reading propertyBytes true columns last) L 0 ≡ out number count M → Complete values (valuesFrom 0 (a .properties)) L number count M
+        → Said values (reading storedBytes true columns last) L number count M → Complete values (valuesFrom 0 (a .properties)) L number count M
     unfolding values
     linked-values columns last L number count M typed none-named room h =
         let s = row-stored row in
-        let reads : reading propertyBytes true columns last ≡ told (valuesFrom 0 (a .properties)) = rw (s .same) (round-trip (s .wrote) columns typed last none-named ∙ saying-told (valuesFrom 0 (a .properties))) in
-        said-complete values _ (valuesFrom 0 (a .properties)) L number count M reads room (said values h)
+        let reads : reading storedBytes true columns last ≡ told (valuesFrom 0 (a .properties)) = rw (s .same) (round-trip (s .wrote) columns typed last none-named ∙ saying-told (valuesFrom 0 (a .properties))) in
+        said-complete values _ (valuesFrom 0 (a .properties)) L number count M reads room h
       where
         saying-told : (vs : List Value) → saying vs ≡ told vs
         saying-told [] = refl

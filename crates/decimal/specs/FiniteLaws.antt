@@ -1,8 +1,7 @@
 -- What the code of a mantissa and an exponent leans on.
 use mathlib.Core.Path.{_≡_, refl, sym, ap, _∙_}
-use mathlib.Core.Bool.{cond}
 use Prim.Native.Nat.{ℕ, suc, _+_, _*_, _-_, _/_, _%_, _^_, _≤_, _<_}
-use native.Mathlib.Nat.{mul-one, mul-right-comm, mul-left-comm, mul-le-mul-left, mul-div-left, mod-eq-of-lt, mul-mod-left, pow-succ'}
+use native.Mathlib.Nat.{mul-one, mul-right-comm, mul-left-comm, mul-le-mul-left, mod-eq-of-lt, pow-succ'}
 use native.Mathlib.Omega.{arith}
 use lib.Pow.{pow-mono, pow-pos, pow-add, split}
 use borrow.Author.Tests.{lt-ltb, le-ltb}

@@ -30,7 +30,7 @@ magnitude ones implied point exponent fraction =
     (special fraction)
     (cond (eqb exponent 0) (told (tenMillionths point fraction 1)) (told (tenMillionths point (fraction + implied) exponent)))
 
--- A double has 52 bits of fraction and 11 of exponent, whose bias is 1023: 1075 is the exponent of a whole number.
+-- A double has 52 bits of fraction and 11 of exponent, whose bias is 1023: at the exponent field 1075 the mantissa is a whole number.
 unfoldable pub ofDouble : ℕ → Magnitude
 ofDouble bits = magnitude 2047 (2 ^ 52) 1075 (bits % 2 ^ 63 / 2 ^ 52) (bits % 2 ^ 52)
 

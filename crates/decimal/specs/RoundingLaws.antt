@@ -1,7 +1,7 @@
 -- What is known of rounding half to even.
 use mathlib.Core.Path.{_≡_, refl, sym, ap, _∙_}
 use mathlib.Core.Bool.{Bool, true, false, not, cond, _&&_, _||_}
-use Prim.Native.Nat.{ℕ, zero, suc, _+_, _*_, _/_, _%_, _^_, _≤_, _<_}
+use Prim.Native.Nat.{ℕ, suc, _+_, _*_, _/_, _%_, _^_, _≤_, _<_}
 use native.Mathlib.Nat.{div-one, div-le-self, mod-one, mod-eq-of-lt, div-eq-of-lt, div-add-mod', mod-lt, mul-div-mul-right, mul-add-mod-self-right, mul-lt-mul-of-pos-right, mul-le-mul-right, le-of-mul-le-mul-right, add-mul-div-right, add-mul-mod-self-right, div-lt-iff-lt-mul, mul-mod-left, pow-succ', add-mul, mul-assoc, mul-comm}
 use native.Mathlib.Omega.{arith}
 use lib.Dec.{ltb, eqb}

@@ -6,7 +6,7 @@ use Prim.Native.Nat.{ℕ, suc, _+_, _-_, _/_, _%_, _^_, _≤_, _<_}
 use native.Mathlib.Nat.{mod-lt, pow-le-pow-right}
 use native.Mathlib.Omega.{arith}
 use lib.Dec.{leb}
-use lib.ListN.{length, drop, set, getD, length-set}
+use lib.ListN.{length, drop, set, length-set}
 use lib.Seq.{drop-cons, drop-length, getD-set-same, drop-set-lt}
 use borrow.Author.Tests.{lt-ltb, leb-true, leb-false}
 use Rattle.laws.specs.Cond.{if-so}

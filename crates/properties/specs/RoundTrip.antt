@@ -7,7 +7,7 @@ use native.Mathlib.Omega.{arith}
 use lib.Dec.{eqb, lit<}
 use lib.ListN.{length, getD, take, drop, replicate, length-append, length-take}
 use lib.Seq.{length-sets}
-use borrow.Author.Tests.{ne-eqb}
+use borrow.Author.Tests.{ne-eqb, le-ltb}
 use Rattle.laws.specs.Bytes.{le}
 use Rattle.laws.specs.Script.{Script, stop, say}
 use Rattle.kinds.specs.declared.value.Value.{Value}
@@ -121,16 +121,38 @@ joined-split : (before : List Property) (p : Property) (behind : List Property) 
 joined-split [] p behind = refl
 joined-split (q ∷ before) p behind = ap (λ (l : List ℕ). bytesOf q ++ l) (joined-split before p behind) ∙ sym (append-assoc (bytesOf q) (joined before) (bytesOf p ++ joined behind))
 
--- a text stands where its value says, six bytes behind the properties before it
-pub text-there : (before : List Property) (p : Property) (behind : List Property) → 11 ≤ p .kind → take (length (p .text)) (drop (length (joined before) + 6) (joined (before ++ p ∷ behind))) ≡ p .text
+-- the value of a property behind others, and the values on both sides of it
+abbrev pub valueAfter : List Property → Property → Value
+valueAfter before p = valueBack (p .column) (p .kind) (p .bits) (p .text) (length (joined before) + 2)
+
+values-split : (at : ℕ) (before : List Property) (p : Property) (behind : List Property)
+    → valuesFrom at (before ++ p ∷ behind) ≡ valuesFrom at before ++ valuesFrom (at + length (joined before)) (p ∷ behind)
+values-split at [] p behind = ap (λ (n : ℕ). valuesFrom n (p ∷ behind)) (omega arith)
+values-split at (q ∷ before) p behind =
+    let place : at + length (bytesOf q) + length (joined before) ≡ at + length (bytesOf q ++ joined before) = omega (arith, length-append (bytesOf q) (joined before)) in
+    ap (λ (vs : List Value). valueBack (q .column) (q .kind) (q .bits) (q .text) (at + 2) ∷ vs)
+    (values-split (at + length (bytesOf q)) before p behind ∙ ap (λ (n : ℕ). valuesFrom (at + length (bytesOf q)) before ++ valuesFrom n (p ∷ behind)) place)
+
+text-bytes : (before : List Property) (p : Property) (behind : List Property) → 11 ≤ p .kind → take (length (p .text)) (drop (length (joined before) + 6) (joined (before ++ p ∷ behind))) ≡ p .text
 unfolding propertyBytes textBytes
-text-there before p behind h =
+text-bytes before p behind h =
     let head : List ℕ = le 2 (p .column) ++ le 4 (length (p .text)) in
     let bytes : bytesOf p ≡ head ++ p .text = ap (λ (l : List ℕ). le 2 (p .column) ++ l) (value-text (p .kind) (p .bits) (p .text) h) in
     let all : joined (before ++ p ∷ behind) ≡ (joined before ++ head) ++ (p .text ++ joined behind)
     = joined-split before p behind ∙ ap (λ (l : List ℕ). joined before ++ (l ++ joined behind)) bytes ∙ ap (λ (l : List ℕ). joined before ++ l) (append-assoc head (p .text) (joined behind)) ∙ sym (append-assoc (joined before) head (p .text ++ joined behind)) in
     let long : length (joined before ++ head) ≡ length (joined before) + 6 = length-append (joined before) head in
     rw (all, ← long) (part-here (joined before ++ head) (p .text) (joined behind) refl)
+
+-- a text stands where its value says
+pub text-there : (before : List Property) (p : Property) (behind : List Property) → 11 ≤ p .kind
+    → (let v = valueAfter before p in (valuesFrom 0 (before ++ p ∷ behind) ≡ valuesFrom 0 before ++ v ∷ valuesFrom (length (joined before) + length (bytesOf p)) behind) × (take (v .len) (drop (v .word) (joined (before ++ p ∷ behind))) ≡ p .text))
+unfolding valueBack
+text-there before p behind h =
+    let place : length (joined before) + 2 + 4 ≡ length (joined before) + 6 = omega arith in
+    let from-zero : 0 + length (joined before) ≡ length (joined before) = omega arith in (
+      values-split 0 before p behind ∙ ap (λ (n : ℕ). valuesFrom 0 before ++ valuesFrom n (p ∷ behind)) from-zero,
+      rw (le-ltb (p .kind) 11 h, place) (text-bytes before p behind h),
+    )
 
 -- ---- read where they stand
 module _ (columns : List ℕ) (last : ℕ) (none-named : 65536 ≤ last) where

@@ -33,7 +33,7 @@ use Rattle.writing.specs.Calls.{isReady, tableAfter, memAfter, eventWith, event
 use Rattle.pending.specs.Growth.{grown, grownAll, grownValues}
 use Rattle.writing.specs.Ends.{well-formed}
 use Rattle.runs.specs.Events.{recordOf, recordsIn, eventsFrom, went-on}
-use Rattle.runs.specs.Plain.{plain, blockedNumber, PlainEvent, pair-plain, coordinate-plain, quiet-plain, plain-decides}
+use Rattle.runs.specs.Plain.{blockedNumber, PlainEvent, pair-plain, coordinate-plain, quiet-plain, plain-decides}
 use Rattle.writing.specs.Ready.{same-ready, event-ready}
 use Rattle.writing.specs.Apart.{is-ready}
 

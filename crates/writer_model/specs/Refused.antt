@@ -8,7 +8,6 @@ use Rattle.kinds.specs.Event.{Parsed}
 use Rattle.kinds.specs.Event.{WellFormed, Malformed}
 use Rattle.log.specs.Log.{heard}
 use Rattle.writing.specs.declared.state.State.{State}
-use Rattle.writing.specs.declared.state.Wrote.{Wrote}
 use Rattle.asking.specs.declared.set_type.Typed.{Typed}
 use Rattle.asking.specs.declared.set_type.Typed.the-variants.{Set, Mixed}
 use Rattle.asking.specs.declared.ask.Ask.{Ask}
