@@ -1,4 +1,5 @@
-"""What the lists cover: every refusal, every type, every change of mode, every entry of docs/DIFFERENCES.md.
+"""What the lists cover: every refusal, every type, every change of mode, every entry of docs/DIFFERENCES.md, and what is easily misread:
+calls with no event, bits above the flags, parts of which nothing is said.
 
     oracle/lists/coverage.py CRATES DIFFERENCES
 
@@ -185,6 +186,15 @@ def is_spare_set(tree, record):
     return any(first >> 16 for first in tree.lists[0][16 * record:16 * record + 1])
 
 
+def silent_parts(tree):
+    """Of a collection that is read, the types of its parts that have no xy list and at most one end, where another part follows."""
+    if tree.readings[0][2] or (tree.declared or kinds_of(tree)[0]) != 7:
+        return []
+    records = [tree.lists[0][at:at + 16] for at in range(0, len(tree.lists[0]), 16)]
+    start, count = records[0][13:15]
+    return [part[0] & 255 for part in records[start:start + count - 1] if not part[0] >> 8 & 1 and part[4] < 2]
+
+
 def entries(path):
     """A row of a table by its name, or by its input where it has none; a point by the bold words at its head."""
     for line in open(path):
@@ -213,9 +223,12 @@ def main():
 
     show("refusal", range(17), lists.refusals())
     show("number of many events in a call", (0, 5, 11, 12, 15), [call.number for call in lists.calls if call.what == EVENTS])
+    show("turn of a call with no event", (0, 1), [call.state[5] for call in lists.calls if call.what == EVENTS and not call.event])
     show("number of a property among calls", (0, 6, 11, 12, 15, 16), [call.number for call in lists.calls if call.what == PROPERTY])
     show("type written", TYPES, lists.types_written())
     show("type read", TYPES, lists.types_read())
+    show("bit above the flags", (16, 32, 64, 128), [tree.flags & bit for tree in lists.trees for bit in (16, 32, 64, 128)])
+    show("type of a silent part", (5, 17), [kind for tree in lists.trees for kind in silent_parts(tree)])
     show("change of mode", CHANGES, lists.changes())
     show("entry of docs/DIFFERENCES.md", told, [entry for entry in told if is_covered(entry, lists)])
     show("name of an entry here", differences.INPUTS.keys() | ENTRIES.keys(), told)

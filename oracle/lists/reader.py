@@ -49,7 +49,8 @@ class Refused(Exception):
 
 class Reading:
     def __init__(self, table, pools, flags):
-        self.table, self.pools, self.flags, self.said = table, pools, flags, []
+        # Of the byte of flags the higher four bits are not looked at.
+        self.table, self.pools, self.flags, self.said = table, pools, flags & 15, []
 
     def say(self, kind, **fields):
         self.said.append(ev(kind, **fields))
@@ -587,6 +588,27 @@ def difference_cases():
         yield case(changed(point.table, 2, 1, 1), point.pools, declared)
 
 
+def silent_trees():
+    """A MultiLineString or Triangle of which nothing is said, and a TIN of which only begin and end are, in a collection: alone, beside
+    parts that are read, beside each other, before a refusal, in a collection of its own, and at the last level and past it."""
+    for kind, ends in itertools.product((MULTI_LINE, TRIANGLE, TIN), (None, [], [1], [TOO_LARGE], [0, 0])):
+        silent, other = dict(type=kind, ends=ends, z=words(1)), dict(type=TRIANGLE if kind == MULTI_LINE else MULTI_LINE)
+        for parts in ([silent], [silent, good_node(POINT)], [good_node(LINE), silent, good_node(TRIANGLE)],
+                      [silent, other, silent, good_node(MULTI_LINE)], [silent, dict(type=POINT)], [silent, dict(type=13)],
+                      [dict(type=COLLECTION, parts=[silent]), good_node(POLYGON)], [dict(type=COLLECTION, parts=[silent, other])] * 2):
+            yield dict(type=COLLECTION, parts=parts), pick.choice((0, COLLECTION)), some_flags()
+        for levels in (16, 17):
+            yield chain(levels, silent, beside=True), 0, 0
+
+
+def higher_flag_trees():
+    """The byte's higher four bits: every set of them over no flag; one of them, and all, over every set of flags."""
+    for flags in (*range(16, 256, 16), *range(17, 32), *range(241, 256)):
+        for absent in ([], [None]):
+            values = {name: pick.choice([words(3), *absent]) for name in VALUES}
+            yield node(pick.choice(OWN), 3, xy=words(6), ends=[1, 3], **values), 0, flags
+
+
 def main():
     write = sys.stdout.buffer.write
     for tree, declared, flags in trees():
@@ -594,6 +616,8 @@ def main():
         write(case(table, pools, declared, flags))
     for framed in itertools.chain(bad_cases(), large_cases(), difference_cases()):
         write(framed)
+    for tree, declared, flags in itertools.chain(silent_trees(), higher_flag_trees()):
+        write(case(*laid(tree), declared, flags))
     for what, count in sorted(counts.items(), key=str):
         print(what, count, file=sys.stderr)
 

@@ -10,8 +10,8 @@ with 12, 15 or 16, or with 11 for its length), and this script stops where the t
 finished tree, record by record and word by word, in a feature's property bytes, or in the lists still pending at the row's end. From
 SPEC alone come 12, 15, 16, where the pending lists stand, and the words that stay as they were. Each row is then given again, with
 its events many in a call, up to the first that is refused and then on from the one behind it, and here and there with a tail that is
-no whole record: the same states must come of it. The seeds are fixed: the same list comes out every time. How many rows of each sort
-there are, and how often each number is answered, is written to standard error.
+no whole record: the same states must come of it. A call that is given no event at all is made both times. The seeds are fixed: the same
+list comes out every time. How many rows of each sort there are, and how often each number is answered, is written to standard error.
 
 A case has a head of two bytes, the state's first word, numbers, a checksum of eight bytes, and what the call is given: an event, or
 events, or a property's value (a word) and its text.
@@ -279,6 +279,11 @@ class Row:
         self.lay_out(EVENTS, number, lent, records, taken=taken, times=times)
         return taken
 
+    def no_events(self, lent=None):
+        """A call for many events that is given none: the oracle has no such call."""
+        self.called(EVENTS, lent)
+        return self.many(b"", lent or self.held)
+
     def property(self, column, kind, bits=0, text=b"", lent=BUFFER):
         number = self.writer.property(column, kind, bits, text, lent)
         if number not in (NOT_ITS_TURN, COLUMN_TOO_LARGE, NO_ROOM):
@@ -332,16 +337,14 @@ class Row:
     def again(self):
         """The cases of the same calls, with the events many in a call: as many as are lent the same, up to some number."""
         row = Row(**self.typing, held=self.held)
+        make_again = {EVENTS: row.no_events, PROPERTY: row.property, FINISH: row.finish, NEXT: row.next}
         together = Together(row)
         for (what, *given), state in self.calls:
             if what == EVENT:
                 together.add(*given)
                 continue
             together.give()
-            if what == PROPERTY:
-                row.property(*given)
-            else:
-                (row.finish if what == FINISH else row.next)(*given)
+            make_again[what](*given)
             assert row.writer.state() == state, self.typing
         together.give()
         assert row.writer.state() == self.writer.state() and row.writer.pools == self.writer.pools, self.typing
@@ -691,10 +694,50 @@ def limit_rows():
     yield from (pair_limit_row(), part_limit_row(), end_limit_row())
 
 
+NOTHING_LENT = (0,) * 8
+
+
+def no_event_rows():
+    """Calls with no event, before and behind each event and while a finished feature waits, on all the memory and on none. While it
+    waits, a rest that is no whole record is malformed, and an event is not in its turn."""
+    for declared, (detect, promote), events in itertools.product((0, 7), SWITCHES, BEFORE):
+        row = Row(declared, detect, promote)
+        row.no_events()
+        for event in events:
+            row.event(event)
+            row.no_events()
+        row.property(1, 1, 7)
+        row.no_events(NOTHING_LENT)
+        row.finish()
+        row.no_events()
+        row.no_events(NOTHING_LENT)
+        row.events([pair()[:63], pair()])
+        row.no_events()
+        row.next()
+        row.no_events(NOTHING_LENT)
+        yield row
+
+
+OPENINGS = (begin(7), begin(2, tagged=1), begin(3, tagged=1))
+ENDS_THAT_ACT = (ev(33), end(2), end(2, tagged=1), ev(35), ev(35, tagged=1), ev(39))
+
+
+def open_rows():
+    """A mode that was left open, in a feature that begins nothing: each end that does something, and one that does not."""
+    for declared, (detect, promote), opening, event in itertools.product((0, 5, 6, 7), SWITCHES, OPENINGS, (*ENDS_THAT_ACT, ev(36))):
+        row = Row(declared, detect, promote)
+        row.event(opening)
+        if row.writer.mode != NORMAL:
+            row.feature([])
+            row.feature([event, pair(), event])
+            yield row
+
+
 def main():
     sorts = dict(nested=nested_rows(), types=type_rows(), declared=other_declared_rows(), wild=wild_rows(350, 30, 0),
                  tight=wild_rows(250, 30, 0.3), leftovers=leftover_rows(), order=order_rows(), room=room_rows(), bench=bench_rows(),
-                 limits=limit_rows(), differences=difference_rows(), properties=property_rows())
+                 limits=limit_rows(), differences=difference_rows(), properties=property_rows(),
+                 no_events=no_event_rows(), open=open_rows())
     for name, rows in sorts.items():
         laid = [row.done() for row in rows]
         sys.stdout.buffer.write(b"".join(itertools.chain(*laid)))
