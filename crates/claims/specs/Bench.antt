@@ -27,7 +27,7 @@ use Rattle.writer_model.specs.BenchCalls as Called
 use Rattle.writer_model.specs.BenchCalls.{blank, Makes}
 use Rattle.writer_model.specs.Feature.{finishedMem}
 use Rattle.writer_model.specs.Tree.{Holds}
-use Rattle.geometry.specs.Told.{told}
+use Rattle.geometries.specs.Told.{told}
 
 -- every call is accepted, the finished tree is t, and reading it under the declared type says s
 abbrev Gives : ℕ → Bool → Bool → Mem → List Event → List Rec → Script Event → Type 0

@@ -18,10 +18,10 @@ use Rattle.writing.specs.State.{Mem}
 use Rattle.bintolage.specs.Calls.{yes}
 use Rattle.writer_model.specs.Writer.{Writer, fresh, afterAll, tree, finish, next}
 use Rattle.writer_model.specs.Tree.{Holds}
-use Rattle.geometry.specs.Geometry.{Simple, point, lineString, polygon, multiPoint, multiLineString, multiPolygon, circularString, compoundCurve, curvePolygon, multiCurve, multiSurface, polyhedralSurface, tin, triangle, typeOf, deep, flatly, depth}
-use Rattle.geometry.specs.Events.{eventsOf}
+use Rattle.geometries.specs.Geometry.{Simple, point, lineString, polygon, multiPoint, multiLineString, multiPolygon, circularString, compoundCurve, curvePolygon, multiCurve, multiSurface, polyhedralSurface, tin, triangle, typeOf, deep, flatly, depth}
+use Rattle.geometries.specs.Events.{eventsOf}
 use Rattle.format.specs.Format.{Tree}
-use Rattle.geometry.specs.Told.{told, Complete}
+use Rattle.geometries.specs.Told.{told, Complete}
 use Rattle.format.specs.Reads.{agrees}
 use Rattle.format.specs.ReadsCall.{table-reads, reads-said}
 use Rattle.format.specs.Writable.{Held, Writable}

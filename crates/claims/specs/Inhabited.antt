@@ -41,8 +41,8 @@ use Rattle.writer_model.specs.Pairs.{pairOf, pendingAt}
 use Rattle.writer_model.specs.Rows.{Reached, start as begins}
 use Rattle.writer_model.specs.Feature.{finishesIn, finishedMem, nextMem, finishes-same, whole-same, done, finished-is, finish-lengths, goes-on, renewed-is, next-lengths}
 use Rattle.writer_model.specs.Fed.{given, takes, fedTo, fedMem, pairsOf, first-done, first-heard, takes-rest, fed-rest}
-use Rattle.geometry.specs.Geometry.{Coord, Line, Simple, polygon, multiPolygon}
-use Rattle.geometry.specs.Events.{eventsOf}
+use Rattle.geometries.specs.Geometry.{Coord, Line, Simple, polygon, multiPolygon}
+use Rattle.geometries.specs.Events.{eventsOf}
 use Rattle.format.specs.Writable.{All, Has, a-polygon, many-polygons}
 use Rattle.least.specs.Sized.{InWords, words-tested}
 use Rattle.claims.specs.Row.{Lends, lends, event, events as many, property, finish, next, leaves, accepts, heardFrom, Accepted, nothing, withEvents, withProperty, withFinish, withNext, tookAll, put, bytesPut, Row, start, lent, call, untaken}

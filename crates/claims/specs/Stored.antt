@@ -11,7 +11,7 @@ use Rattle.laws.specs.Cut.{roomOf, Said}
 use Rattle.kinds.specs.declared.value.Value.{Value}
 use Rattle.log.specs.Log.{heard}
 use Rattle.log.specs.Values.{values}
-use Rattle.geometry.specs.Told.{told, Complete, said-complete}
+use Rattle.geometries.specs.Told.{told, Complete, said-complete}
 use Rattle.property_writer.specs.Writing.{putOf}
 use Rattle.property_writer.specs.WritingLaws.{accepted, refused as untouched}
 use Rattle.property_reader.specs.Reading.{reading}

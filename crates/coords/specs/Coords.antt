@@ -9,7 +9,7 @@ use Rattle.laws.specs.Script.{Script, stop, say}
 use Rattle.kinds.specs.Event.{xyE}
 use Rattle.kinds.specs.declared.event.Event.{Event}
 use Rattle.kinds.specs.declared.flags.Flags.{Flags}
-use Rattle.geometry.specs.Coordinate.{multi, coordE}
+use Rattle.geometries.specs.Coordinate.{multi, coordE}
 use Rattle.store.specs.Lists.{Rec}
 use Rattle.coords.specs.declared.pairs.Value.{Value}
 use Rattle.coords.specs.declared.pairs.Value.the-variants.{Absent, Past, Present}

@@ -14,7 +14,7 @@ use Rattle.kinds.specs.declared.event.Event.{Event}
 use Rattle.coords.specs.declared.pairs.Value.{Value}
 use Rattle.coords.specs.declared.pairs.Value.the-variants.{Absent, Past, Present}
 use Rattle.coords.specs.declared.pairs.Pair.{Pair}
-use Rattle.geometry.specs.Coordinate.{is, or0, coordE}
+use Rattle.geometries.specs.Coordinate.{is, or0, coordE}
 use Rattle.coords.specs.Coords.{Lanes, headOf, tailOf, dropO, dropped, tails, taken, coordinateS, pairS}
 use Rattle.coords.specs.Seen.{isPast, valueOf, when, told}
 

@@ -6,7 +6,7 @@ ghost use mathlib.Core.Bool.{cond};
 ghost use Prim.Native.Nat.{_≤_};
 ghost use Rattle.laws.specs.Script.{Script};
 ghost use Rattle.kinds.specs.declared.event.Event.{Event as E};
-ghost use Rattle.geometry.specs.Coordinate.{is, or0};
+ghost use Rattle.geometries.specs.Coordinate.{is, or0};
 ghost use Rattle.coords.specs.Coords.{headOf, dropO, dropped, coordinateS, pairS};
 ghost use Rattle.coords.specs.Seen.{isPast, valueOf, when, lanesIn, told};
 

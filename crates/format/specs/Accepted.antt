@@ -12,8 +12,8 @@ use Rattle.asking.specs.declared.typing.Typing.{Typing}
 use Rattle.asking.specs.declared.set_type.Typed.the-variants.{Set, Mixed}
 use Rattle.asking.specs.SetType.{typedNumber, setType}
 use Rattle.writer_model.specs.Writer.{nay}
-use Rattle.geometry.specs.Geometry.{Simple, multiLineString, multiPolygon, simple, Geometry, typeOf}
-use Rattle.geometry.specs.Events.{begins}
+use Rattle.geometries.specs.Geometry.{Simple, multiLineString, multiPolygon, simple, Geometry, typeOf}
+use Rattle.geometries.specs.Events.{begins}
 use Rattle.format.specs.Writable.{Held, lines, polygons, Writable, a-point, a-line, a-polygon, many-points, many-lines, many-polygons, an-arc, a-surface, a-tin, a-triangle}
 use Rattle.format.specs.Writes.{normal, resting, on-first, liftable, declared, unknown}
 use Rattle.format.specs.Promoted.{line, rings}

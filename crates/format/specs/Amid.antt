@@ -11,13 +11,13 @@ use Rattle.kinds.specs.Event.{isTaggedType, bitSet, beginE, endE, xyE, coordina
 use Rattle.kinds.specs.declared.event.Event.{Event}
 use Rattle.kinds.specs.declared.flags.Flags.{Flags}
 use Rattle.store.specs.Lists.{Rec}
-use Rattle.geometry.specs.Coordinate.{multi, is, or0, bits, coordE}
+use Rattle.geometries.specs.Coordinate.{multi, is, or0, bits, coordE}
 use Rattle.asking.specs.declared.typing.Typing.{Typing}
 use Rattle.asking.specs.SetType.{typing}
 use Rattle.asking.specs.Ask.{begun}
 use Rattle.writer_model.specs.Writer.{Writer, pushed, partOf, finishPart, coordinate, endPushed, lineEnd, polygonEnd, after, afterAll}
-use Rattle.geometry.specs.Geometry.{Coord, Line, Rings}
-use Rattle.geometry.specs.Events.{shown, each, group, seenAs, coordOf, lineOf, triangleOf}
+use Rattle.geometries.specs.Geometry.{Coord, Line, Rings}
+use Rattle.geometries.specs.Events.{shown, each, group, seenAs, coordOf, lineOf, triangleOf}
 use Rattle.format.specs.Format.{xyOf, joined, endsFrom}
 use Rattle.format.specs.FormatLaws.{xy-append, half}
 use Rattle.format.specs.Writable.{All, Has, HasRings}

@@ -11,15 +11,15 @@ use Rattle.kinds.specs.Event.{beginE, endE, xyE, coordinateE}
 use Rattle.kinds.specs.declared.event.Event.{Event}
 use Rattle.kinds.specs.declared.flags.Flags.{Flags}
 use Rattle.store.specs.Lists.{Rec}
-use Rattle.geometry.specs.Coordinate.{coordE}
+use Rattle.geometries.specs.Coordinate.{coordE}
 use Rattle.coords.specs.Coords.{taken, coordinateS, pairS, coordsS, betweenS}
 use Rattle.lines.specs.Lines.{stretchS, linesS, flatO, flatS, ringsS, stretchesS, polygonS, multiLineS, triangleAt, trianglesS, triangleS, tinS, pointS}
 use Rattle.reader.specs.Reading.{partsS, spanS, polygonPart, curveOf, curveS, kindS, geometryS, rootS, readS}
 use Rattle.asking.specs.SetType.{unknownType, collected, setType}
 use Rattle.asking.specs.Ask.{begun}
 use Rattle.writer_model.specs.Writer.{Writer, fresh, longer, partOf, finishPart, coordinate, endPushed, lineEnd, polygonEnd, after, afterAll, nay, finish, tree, next}
-use Rattle.geometry.specs.Geometry.{Coord, Geometry}
-use Rattle.geometry.specs.Events.{eventsOf}
+use Rattle.geometries.specs.Geometry.{Coord, Geometry}
+use Rattle.geometries.specs.Events.{eventsOf}
 
 abbrev pub plain : Flags
 plain = record { z = false; m = false; t = false; tm = false }

@@ -15,8 +15,8 @@ use Rattle.asking.specs.SetType.{typing, unknownType, collected, setType}
 use Rattle.asking.specs.Ask.{begun}
 use Rattle.writer_model.specs.Writer.{Writer, longer, partOf, finishPart, endPushed, lineEnd, after, afterAll, tree}
 use Rattle.writer_model.specs.Tree.{Holds}
-use Rattle.geometry.specs.Geometry.{Coord, Line, Simple, point, lineString, multiLineString, tin, triangle, collection, typeOf}
-use Rattle.geometry.specs.Events.{each, lineOf, simpleOf, geometryOf}
+use Rattle.geometries.specs.Geometry.{Coord, Line, Simple, point, lineString, multiLineString, tin, triangle, collection, typeOf}
+use Rattle.geometries.specs.Events.{each, lineOf, simpleOf, geometryOf}
 use Rattle.format.specs.Format.{Lines, Each, Is, Means, Tree}
 use Rattle.format.specs.Writable.{All, Some, Has}
 use Rattle.format.specs.Tables.{tableOf, rootTable, table-coords}

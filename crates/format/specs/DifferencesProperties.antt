@@ -11,7 +11,7 @@ use Rattle.kinds.specs.declared.value.Value.{Value as Record}
 use Rattle.property_value.specs.Column.{widthOf}
 use Rattle.property_value.specs.Value.{wordOf}
 use Rattle.property_reader.specs.Reading.{numberAt, valueAt, itemAt, onItem, propertiesUpTo, propertiesFrom, reading}
-use Rattle.geometry.specs.Told.{told}
+use Rattle.geometries.specs.Told.{told}
 use Rattle.format.specs.Properties.{Value, number, sized, formOf, sizedType, typeOf, valueBytes, Property, bufferOf, AllKeyed}
 use Rattle.format.specs.PropertiesKept.{recordOf, recordsFrom, formed, sized-above, properties-read}
 

@@ -12,10 +12,10 @@ use Rattle.kinds.specs.Event.{beginE, endE, xyE}
 use Rattle.kinds.specs.declared.event.Event.{Event}
 use Rattle.kinds.specs.declared.flags.Flags.{Flags}
 use Rattle.store.specs.Lists.{Rec}
-use Rattle.geometry.specs.Geometry.{Segment, straight, arc, compound, Surface, flat, curved, Simple, point, lineString, polygon, multiLineString, multiCurve, multiSurface, triangle}
-use Rattle.geometry.specs.Events.{simpleOf, eventsOf}
+use Rattle.geometries.specs.Geometry.{Segment, straight, arc, compound, Surface, flat, curved, Simple, point, lineString, polygon, multiLineString, multiCurve, multiSurface, triangle}
+use Rattle.geometries.specs.Events.{simpleOf, eventsOf}
 use Rattle.format.specs.Format.{IsSegment, IsSurface, Is, Tree}
-use Rattle.geometry.specs.Told.{told}
+use Rattle.geometries.specs.Told.{told}
 use Rattle.format.specs.Once.{OfType, ofPoint, ofLine, ofPolygon, ofLines, ofCompound, ofSurfaces, ofTin, ofTriangle}
 use Rattle.format.specs.NoMeaning.{Meaningless, meaningless, ends-count, heights-count, only-part}
 use Rattle.format.specs.Cases.{plain, high, here, there, raised, table, heights, empty, readUnder}

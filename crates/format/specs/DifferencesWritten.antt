@@ -7,11 +7,11 @@ use Prim.Native.Nat.{ℕ}
 use Rattle.laws.specs.Script.{Script, stop, say}
 use Rattle.kinds.specs.Event.{beginE}
 use Rattle.kinds.specs.declared.event.Event.{Event}
-use Rattle.geometry.specs.Coordinate.{coordE}
+use Rattle.geometries.specs.Coordinate.{coordE}
 use Rattle.writer_model.specs.Writer.{finish, next}
-use Rattle.geometry.specs.Geometry.{straight, arc, segment, flat, Simple, point, lineString, polygon, multiPoint, multiLineString, multiPolygon, circularString, compoundCurve, curvePolygon, multiCurve, multiSurface, polyhedralSurface, tin, simple, collection, Geometry}
-use Rattle.geometry.specs.Events.{eventsOf}
-use Rattle.geometry.specs.Told.{told}
+use Rattle.geometries.specs.Geometry.{straight, arc, segment, flat, Simple, point, lineString, polygon, multiPoint, multiLineString, multiPolygon, circularString, compoundCurve, curvePolygon, multiCurve, multiSurface, polyhedralSurface, tin, simple, collection, Geometry}
+use Rattle.geometries.specs.Events.{eventsOf}
+use Rattle.geometries.specs.Told.{told}
 use Rattle.format.specs.Cases.{plain, high, here, there, raised, written, there-and-back}
 
 -- read as a geometry, refused with a number, or refused by the writer

@@ -8,7 +8,7 @@ use lib.ListN.{length}
 use lib.Dec.{eqb}
 use Rattle.store.specs.Lists.{Rec}
 use Rattle.lines.specs.Lines.{orNone}
-use Rattle.geometry.specs.Geometry.{Coord, Line, Segment, straight, arc, Curve, segment, compound, Surface, flat, curved, Simple, point, lineString, polygon, multiPoint, multiLineString, multiPolygon, circularString, compoundCurve, curvePolygon, multiCurve, multiSurface, polyhedralSurface, tin, triangle, simple, collection, Geometry, typeOf}
+use Rattle.geometries.specs.Geometry.{Coord, Line, Segment, straight, arc, Curve, segment, compound, Surface, flat, curved, Simple, point, lineString, polygon, multiPoint, multiLineString, multiPolygon, circularString, compoundCurve, curvePolygon, multiCurve, multiSurface, polyhedralSurface, tin, triangle, simple, collection, Geometry, typeOf}
 
 -- xy: flat x and y coordinate array (flat pairs)
 abbrev pub xyOf : List Coord → List ℕ

@@ -10,8 +10,8 @@ use lib.Dec.{leb}
 use Rattle.laws.specs.Every.{never}
 use Rattle.coords.specs.Coords.{tailOf, dropO, seen}
 use Rattle.lines.specs.Lines.{single}
-use Rattle.geometry.specs.Geometry.{Coord, Line}
-use Rattle.geometry.specs.Events.{shown}
+use Rattle.geometries.specs.Geometry.{Coord, Line}
+use Rattle.geometries.specs.Events.{shown}
 use Rattle.format.specs.Format.{xyOf, valuesOf, ByCoord, endsFrom, Ends}
 
 -- ---- xy

@@ -12,11 +12,11 @@ use Rattle.laws.specs.Script.{Script, stop, say}
 use Rattle.kinds.specs.declared.flags.Flags.{Flags}
 use Rattle.store.specs.Lists.{Rec}
 use Rattle.reader.specs.Reading.{readS}
-use Rattle.geometry.specs.Geometry.{Coord, Line, Simple, simple, collection, Geometry, depth}
-use Rattle.geometry.specs.Events.{eventsOf}
+use Rattle.geometries.specs.Geometry.{Coord, Line, Simple, simple, collection, Geometry, depth}
+use Rattle.geometries.specs.Events.{eventsOf}
 use Rattle.format.specs.Format.{xyOf, joined, endsFrom, Coords, Lines, Each, Parts, Is, Means, Tree}
 use Rattle.format.specs.FormatLaws.{xy-length}
-use Rattle.geometry.specs.Told.{told}
+use Rattle.geometries.specs.Told.{told}
 use Rattle.format.specs.Reads.{AllSmall, agrees, reads}
 use Rattle.format.specs.Once.{OfType, asType}
 

@@ -12,7 +12,7 @@ use Rattle.laws.specs.Every.{never}
 use Rattle.store.specs.Lists.{Rec}
 use Rattle.coords.specs.Coords.{tailOf}
 use Rattle.lines.specs.Lines.{orNone, single}
-use Rattle.geometry.specs.Geometry.{Coord, Line, Rings, Segment, straight, arc, Curve, segment, compound, Surface, flat, curved, Simple, point, lineString, polygon, multiPoint, multiLineString, multiPolygon, circularString, compoundCurve, curvePolygon, multiCurve, multiSurface, polyhedralSurface, tin, triangle, simple, collection, Geometry, typeOf}
+use Rattle.geometries.specs.Geometry.{Coord, Line, Rings, Segment, straight, arc, Curve, segment, compound, Surface, flat, curved, Simple, point, lineString, polygon, multiPoint, multiLineString, multiPolygon, circularString, compoundCurve, curvePolygon, multiCurve, multiSurface, polyhedralSurface, tin, triangle, simple, collection, Geometry, typeOf}
 use Rattle.format.specs.Format.{xyOf, ByCoord, Coords, joined, endsFrom, Lines, Each, Parts, IsSegment, IsCurve, IsSurface, Is, Means, Tree}
 use Rattle.format.specs.FormatLaws.{lane-first, lane-rest, ends-length, Cut, whole, split, cut}
 

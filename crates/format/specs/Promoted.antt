@@ -15,8 +15,8 @@ use Rattle.asking.specs.SetType.{typing, withMode, unknownType, collected, setT
 use Rattle.asking.specs.Ask.{begun}
 use Rattle.writer_model.specs.Writer.{Writer, partOf, finishPart, endPushed, lineEnd, polygonEnd, after, afterAll, tree}
 use Rattle.writer_model.specs.Tree.{Holds}
-use Rattle.geometry.specs.Geometry.{Line, Rings, Simple, lineString, polygon, multiLineString, multiPolygon, typeOf}
-use Rattle.geometry.specs.Events.{simpleOf, begins}
+use Rattle.geometries.specs.Geometry.{Line, Rings, Simple, lineString, polygon, multiLineString, multiPolygon, typeOf}
+use Rattle.geometries.specs.Events.{simpleOf, begins}
 use Rattle.format.specs.Format.{Tree}
 use Rattle.format.specs.FormatLaws.{half}
 use Rattle.format.specs.Writable.{All, Has, HasRings, Held, lines, polygons, Writable, many-lines, many-polygons}

@@ -21,7 +21,7 @@ use Rattle.property_reader.specs.Reading.{propertiesFrom, reading}
 use Rattle.log.specs.Values.{values}
 use Rattle.properties.specs.ReadBack.{Writable, valueBack, read-back}
 use Rattle.property_reader.specs.ReadingLaws.{read-end, read-whole}
-use Rattle.geometry.specs.Told.{told, Complete, said-complete}
+use Rattle.geometries.specs.Told.{told, Complete, said-complete}
 use Rattle.format.specs.Properties.{Number, byte, ubyte, bool, short, ushort, int, uint, long, ulong, float, double, Sized, string, json, dateTime, binary, Value, number, sized, formOf, sizedType, typeOf, Spelt, Fits, valueBytes, Property, propertyBytes, bufferOf, Keyed, AllKeyed}
 
 -- ---- types by their numbers

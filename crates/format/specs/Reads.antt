@@ -17,10 +17,10 @@ use Rattle.store.specs.Lists.{Rec}
 use Rattle.coords.specs.Coords.{coordsOf}
 use Rattle.lines.specs.Lines.{orNone, polygonS, triangleS}
 use Rattle.reader.specs.Reading.{partsS, spanS, polygonPart, curveOf as curveOfS, curveS, kindS, geometryS, rootS, readS}
-use Rattle.geometry.specs.Geometry.{Line, Coord, Segment, straight, arc, Curve, segment, compound, Surface, flat, curved, Simple, point, lineString, polygon, multiPoint, multiLineString, multiPolygon, circularString, compoundCurve, curvePolygon, multiCurve, multiSurface, polyhedralSurface, tin, triangle, simple, collection, Geometry, typeOf, deep, flatly, curveDepth, surfaceDepth, simpleDepth, depth}
-use Rattle.geometry.specs.Events.{Tells, each, group, lineOf, triangleOf, segmentOf, curveOf, surfaceOf, simpleOf, geometryOf, eventsOf}
+use Rattle.geometries.specs.Geometry.{Line, Coord, Segment, straight, arc, Curve, segment, compound, Surface, flat, curved, Simple, point, lineString, polygon, multiPoint, multiLineString, multiPolygon, circularString, compoundCurve, curvePolygon, multiCurve, multiSurface, polyhedralSurface, tin, triangle, simple, collection, Geometry, typeOf, deep, flatly, curveDepth, surfaceDepth, simpleDepth, depth}
+use Rattle.geometries.specs.Events.{Tells, each, group, lineOf, triangleOf, segmentOf, curveOf, surfaceOf, simpleOf, geometryOf, eventsOf}
 use Rattle.format.specs.Format.{Coords, Lines, Each, Parts, IsSegment, IsCurve, IsSurface, Is, Means, Tree}
-use Rattle.geometry.specs.Told.{told, then-done, framed-then}
+use Rattle.geometries.specs.Told.{told, then-done, framed-then}
 use Rattle.format.specs.FormatLaws.{xy-length, Cut, whole, split, cut}
 use Rattle.format.specs.ReadsLines.{shows, flat-read, stretches-read, multi-read, one-triangle, tin-read, point-read}
 

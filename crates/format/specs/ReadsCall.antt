@@ -20,10 +20,10 @@ use Rattle.store.specs.RecordLaws.{InPool, within}
 use Rattle.store.specs.Lists.{Pools, lentOf, listOf, seen, recordWith}
 use Rattle.lines.specs.Lines.{orNone}
 use Rattle.reader.specs.Reading.{readS}
-use Rattle.geometry.specs.Geometry.{Geometry, depth}
-use Rattle.geometry.specs.Events.{eventsOf}
+use Rattle.geometries.specs.Geometry.{Geometry, depth}
+use Rattle.geometries.specs.Events.{eventsOf}
 use Rattle.format.specs.Format.{Tree}
-use Rattle.geometry.specs.Told.{told, Complete, said-complete}
+use Rattle.geometries.specs.Told.{told, Complete, said-complete}
 use Rattle.format.specs.Reads.{Small, AllSmall, agrees, reads}
 
 module _ (table : List ℕ) (P : Pools) where

@@ -14,13 +14,13 @@ use Rattle.kinds.specs.Event.{beginE, endE, xyE}
 use Rattle.kinds.specs.declared.event.Event.{Event}
 use Rattle.kinds.specs.declared.flags.Flags.{Flags}
 use Rattle.store.specs.Lists.{Rec}
-use Rattle.geometry.specs.Coordinate.{multi, coordE}
+use Rattle.geometries.specs.Coordinate.{multi, coordE}
 use Rattle.coords.specs.Coords.{headOf, Lanes, Coords as Seen, coordsOf, dropped, tails, taken, coordinateS, pairS, coordsS, betweenS}
 use Rattle.lines.specs.Lines.{single, stretchS, linesS, flatO, flatS, ringsS, stretchesS, multiLineS, triangleAt, trianglesS, ifThere, triangleS, tinS, pointS}
-use Rattle.geometry.specs.Geometry.{Coord, Line, point}
-use Rattle.geometry.specs.Events.{shown, each, group, seenAs, coordOf, lineOf, triangleOf, simpleOf}
+use Rattle.geometries.specs.Geometry.{Coord, Line, point}
+use Rattle.geometries.specs.Events.{shown, each, group, seenAs, coordOf, lineOf, triangleOf, simpleOf}
 use Rattle.format.specs.Format.{xyOf, ByCoord, Coords, joined, endsFrom}
-use Rattle.geometry.specs.Told.{told, framed-then}
+use Rattle.geometries.specs.Told.{told, framed-then}
 use Rattle.format.specs.FormatLaws.{xy-length, half, xy-append, firstOf, lane-first, lane-there, lane-rest, lane-drop, lane-seen, ends-length, Cut, whole, split}
 
 lane-taken : {f : Coord → Option ℕ} {o : Option (List ℕ)} {c : Coord} {cs : List Coord} → ByCoord o f (c ∷ cs) → (g : Option ℕ → Script Event) → taken (headOf o) g ≡ g (f c)

@@ -21,10 +21,10 @@ use Rattle.writer_model.specs.Writer.{Writer, fresh, rootOver, finish, tree, ne
 use Rattle.writer_model.specs.Stands.{Agrees}
 use Rattle.writer_model.specs.Rows.{Reached, row-stands}
 use Rattle.writer_model.specs.Tree.{Holds, row-tree}
-use Rattle.geometry.specs.Geometry.{Coord, Simple, simple, collection, Geometry, deep, flatly, simpleDepth, depth}
-use Rattle.geometry.specs.Events.{eventsOf}
+use Rattle.geometries.specs.Geometry.{Coord, Simple, simple, collection, Geometry, deep, flatly, simpleDepth, depth}
+use Rattle.geometries.specs.Events.{eventsOf}
 use Rattle.format.specs.Format.{Tree}
-use Rattle.geometry.specs.Told.{told, Complete}
+use Rattle.geometries.specs.Told.{told, Complete}
 use Rattle.format.specs.Reads.{AllSmall, agrees, reads}
 use Rattle.format.specs.ReadsCall.{reads-said}
 use Rattle.format.specs.Writable.{Held, Writable, a-point, a-line, a-polygon, many-points, many-lines, many-polygons, an-arc, a-surface, a-tin, a-triangle}

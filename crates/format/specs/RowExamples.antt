@@ -6,7 +6,7 @@ use mathlib.Core.Option.{none, some}
 use Prim.Native.Nat.{ℕ}
 use Rattle.kinds.specs.declared.flags.Flags.{Flags}
 use Rattle.writer_model.specs.Writer.{fresh}
-use Rattle.geometry.specs.Geometry.{Coord, Line, point, lineString, polygon, multiPoint, multiLineString, multiPolygon, triangle, simple, collection, Geometry}
+use Rattle.geometries.specs.Geometry.{Coord, Line, point, lineString, polygon, multiPoint, multiLineString, multiPolygon, triangle, simple, collection, Geometry}
 use Rattle.format.specs.Writable.{All, Has, a-polygon, many-points, many-polygons}
 use Rattle.format.specs.Writes.{unknown}
 use Rattle.format.specs.Promoted.{line}

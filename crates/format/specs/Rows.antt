@@ -8,8 +8,8 @@ use Rattle.kinds.specs.declared.flags.Flags.{Flags}
 use Rattle.store.specs.Lists.{Rec}
 use Rattle.writer_model.specs.Writer.{Writer, fresh, afterAll, finish, tree, next}
 use Rattle.writer_model.specs.Tree.{Holds}
-use Rattle.geometry.specs.Geometry.{Simple, simple, collection, Geometry, typeOf}
-use Rattle.geometry.specs.Events.{eventsOf}
+use Rattle.geometries.specs.Geometry.{Simple, simple, collection, Geometry, typeOf}
+use Rattle.geometries.specs.Events.{eventsOf}
 use Rattle.format.specs.Format.{Tree}
 use Rattle.format.specs.Writable.{Some, Held, Writable}
 use Rattle.format.specs.Writes.{normal, resting, fresh-rests, parts-rest, ending-rests, thenDeclared, Starts, starts, over-is, writes}

@@ -11,11 +11,11 @@ use borrow.Author.Tests.{lt-leb}
 use Rattle.laws.specs.Every.{never}
 use Rattle.kinds.specs.declared.flags.Flags.{Flags}
 use Rattle.store.specs.Lists.{Rec}
-use Rattle.geometry.specs.Coordinate.{is}
+use Rattle.geometries.specs.Coordinate.{is}
 use Rattle.lines.specs.Lines.{orNone}
 use Rattle.writer_model.specs.Writer.{longer}
 use Rattle.writer_model.specs.Tree.{Holds}
-use Rattle.geometry.specs.Geometry.{Coord, Line, Rings}
+use Rattle.geometries.specs.Geometry.{Coord, Line, Rings}
 use Rattle.format.specs.Format.{xyOf, valuesOf, ByCoord, Coords, joined, endsFrom, Ends, Lines, Each}
 use Rattle.format.specs.FormatLaws.{ends-length}
 use Rattle.format.specs.Writable.{All, Some, Has, HasRings}

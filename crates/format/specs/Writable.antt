@@ -2,8 +2,8 @@
 use mathlib.Core.Path.{_≡_}
 use mathlib.Core.List.{List, [], _∷_}
 use Rattle.kinds.specs.declared.flags.Flags.{Flags}
-use Rattle.geometry.specs.Coordinate.{is}
-use Rattle.geometry.specs.Geometry.{Coord, Line, Rings, Simple, point, lineString, polygon, multiPoint, multiLineString, multiPolygon, circularString, polyhedralSurface, tin, triangle}
+use Rattle.geometries.specs.Coordinate.{is}
+use Rattle.geometries.specs.Geometry.{Coord, Line, Rings, Simple, point, lineString, polygon, multiPoint, multiLineString, multiPolygon, circularString, polyhedralSurface, tin, triangle}
 
 abbrev pub All : {A : Type 0} → (A → Type 0) → List A → Type 0
 All P [] = Unit {0}

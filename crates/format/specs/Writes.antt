@@ -17,8 +17,8 @@ use Rattle.asking.specs.SetType.{typing, typedNumber, unknownType, collected, s
 use Rattle.asking.specs.Ask.{begun}
 use Rattle.writer_model.specs.Writer.{Writer, fresh, typedTo, partOf, lineEnd, polygonEnd, after, afterAll, nay, finish, tree, next}
 use Rattle.writer_model.specs.Tree.{Holds}
-use Rattle.geometry.specs.Geometry.{Line, Coord, Simple, point, lineString, polygon, multiPoint, multiLineString, multiPolygon, circularString, compoundCurve, curvePolygon, multiCurve, multiSurface, polyhedralSurface, tin, triangle, typeOf}
-use Rattle.geometry.specs.Events.{Tells, each, group, coordOf, lineOf, triangleOf, simpleOf, begins}
+use Rattle.geometries.specs.Geometry.{Line, Coord, Simple, point, lineString, polygon, multiPoint, multiLineString, multiPolygon, circularString, compoundCurve, curvePolygon, multiCurve, multiSurface, polyhedralSurface, tin, triangle, typeOf}
+use Rattle.geometries.specs.Events.{Tells, each, group, coordOf, lineOf, triangleOf, simpleOf, begins}
 use Rattle.format.specs.Format.{Coords, joined, endsFrom, Lines, Parts, Is, Tree}
 use Rattle.format.specs.Writable.{All, Some, Has, HasRings, Held, coords, lines, polygons, Writable, a-point, a-line, a-polygon, many-points, many-lines, many-polygons, an-arc, a-surface, a-tin, a-triangle}
 use Rattle.format.specs.Tables.{tableOf, ringsTable, rootTable, table-coords, table-lines, parts-are}

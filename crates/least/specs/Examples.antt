@@ -6,7 +6,7 @@ use mathlib.Core.Option.{Option, none, some}
 use Prim.Native.Nat.{ℕ, zero, suc}
 use Rattle.kinds.specs.declared.flags.Flags.{Flags}
 use Rattle.store.specs.Lists.{Rec}
-use Rattle.geometry.specs.Geometry.{Coord, Line, lineString, polygon, multiPolygon}
+use Rattle.geometries.specs.Geometry.{Coord, Line, lineString, polygon, multiPolygon}
 use Rattle.least.specs.Size.{numbers, reached, share, sizeOf}
 use Rattle.least.specs.Least.{leastOf}
 

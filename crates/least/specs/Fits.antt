@@ -11,7 +11,7 @@ use Rattle.laws.specs.Script.{Script, stop, say, one, _⨟_}
 use Rattle.laws.specs.Framed.{framed}
 use Rattle.kinds.specs.Event.{wellFormed, EventSized, beginE, endE, xyE, coordinateE}
 use Rattle.kinds.specs.declared.event.Event.{Event}
-use Rattle.geometry.specs.Coordinate.{or0, coordE}
+use Rattle.geometries.specs.Coordinate.{or0, coordE}
 
 -- ---- every record that a script says
 module _ {A : Type 0} (P : A → Type 0) where

@@ -6,9 +6,9 @@ use Prim.Native.Nat.{ℕ, _+_}
 use lib.ListN.{length}
 use lib.Dec.{leb}
 use Rattle.kinds.specs.declared.flags.Flags.{Flags}
-use Rattle.geometry.specs.Coordinate.{is}
-use Rattle.geometry.specs.Geometry.{Coord, Line, Rings, Simple, point, lineString, polygon, multiPoint, multiLineString, multiPolygon, circularString, compoundCurve, curvePolygon, multiCurve, multiSurface, polyhedralSurface, tin, triangle}
-use Rattle.geometry.specs.Events.{shown}
+use Rattle.geometries.specs.Coordinate.{is}
+use Rattle.geometries.specs.Geometry.{Coord, Line, Rings, Simple, point, lineString, polygon, multiPoint, multiLineString, multiPolygon, circularString, compoundCurve, curvePolygon, multiCurve, multiSurface, polyhedralSurface, tin, triangle}
+use Rattle.geometries.specs.Events.{shown}
 use Rattle.format.specs.Format.{joined}
 
 abbrev pub sum : {A : Type 0} → (A → ℕ) → List A → ℕ

@@ -14,13 +14,13 @@ use Rattle.laws.specs.Framed.{framed, seq-seq}
 use Rattle.kinds.specs.Event.{beginE, endE}
 use Rattle.kinds.specs.declared.event.Event.{Event}
 use Rattle.kinds.specs.declared.flags.Flags.{Flags}
-use Rattle.geometry.specs.Coordinate.{multi}
+use Rattle.geometries.specs.Coordinate.{multi}
 use Rattle.coords.specs.Coords.{Lanes, Coords, betweenS}
 use Rattle.lines.specs.Lines.{single, badEnd, stretchS, linesS, flatS, ringsS, stretchesS, ifThere, multiLineS, triangleAt, trianglesS, triangleS, tinS}
-use Rattle.geometry.specs.Geometry.{Line}
-use Rattle.geometry.specs.Events.{each, group, lineOf, triangleOf}
+use Rattle.geometries.specs.Geometry.{Line}
+use Rattle.geometries.specs.Events.{each, group, lineOf, triangleOf}
 use Rattle.format.specs.Format.{joined}
-use Rattle.geometry.specs.Told.{told, then-done, framed-then}
+use Rattle.geometries.specs.Told.{told, then-done, framed-then}
 use Rattle.least.specs.Least.{ends}
 use Rattle.least.specs.Said.{rest, kinds, sizes, mute}
 use Rattle.least.specs.Pairs.{end-low, Room, room-none, room-join, of-between, of-flat}

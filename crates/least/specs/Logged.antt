@@ -21,9 +21,9 @@ use Rattle.least.specs.Sized.{InWords, table-says}
 use Rattle.asking.specs.declared.typing.Typing.{Typing}
 use Rattle.writer_model.specs.Writer.{tree}
 use Rattle.writer_model.specs.Tree.{Holds}
-use Rattle.geometry.specs.Geometry.{Simple, typeOf}
-use Rattle.geometry.specs.Events.{eventsOf}
-use Rattle.geometry.specs.Told.{told, told-records, Complete}
+use Rattle.geometries.specs.Geometry.{Simple, typeOf}
+use Rattle.geometries.specs.Events.{eventsOf}
+use Rattle.geometries.specs.Told.{told, told-records, Complete}
 use Rattle.format.specs.Writable.{All, Held, Writable}
 use Rattle.format.specs.Writes.{ending}
 use Rattle.least.specs.Least.{leastOf}

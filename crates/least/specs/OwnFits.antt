@@ -14,7 +14,7 @@ use Rattle.laws.specs.Every.{neither}
 use Rattle.laws.specs.Script.{Script, stop}
 use Rattle.kinds.specs.Event.{wellFormed, beginE, endE}
 use Rattle.kinds.specs.declared.event.Event.{Event}
-use Rattle.geometry.specs.Coordinate.{or0}
+use Rattle.geometries.specs.Coordinate.{or0}
 use Rattle.coords.specs.Coords.{Lanes, Coords, headOf, tailOf, dropO, dropped, tails, seen as shown, taken, coordinateS, pairS, coordsS, betweenS}
 use Rattle.lines.specs.Lines.{orNone, single, stretches, badEnd, stretchS, linesS, flatO, flatS, ringsS, stretchesS, ifThere, multiLineS, triangleAt, trianglesS, triangleS, tinS, pointS}
 use Rattle.least.specs.Fits.{then-said, framed-said, either-said, Fits, Says, U32, U64, Frame, begin-fits, end-fits, frame-says, xy-fits, coord-fits}

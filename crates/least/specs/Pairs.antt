@@ -10,12 +10,12 @@ use Rattle.laws.specs.Script.{Script, stop, say, _⨟_}
 use Rattle.kinds.specs.Event.{endE, xyE, coordinateE}
 use Rattle.kinds.specs.declared.event.Event.{Event}
 use Rattle.kinds.specs.declared.flags.Flags.{Flags}
-use Rattle.geometry.specs.Coordinate.{multi, coordE}
+use Rattle.geometries.specs.Coordinate.{multi, coordE}
 use Rattle.coords.specs.Coords.{Lanes, dropped, tails, coordsS, betweenS}
 use Rattle.lines.specs.Lines.{flatO}
-use Rattle.geometry.specs.Geometry.{Coord}
-use Rattle.geometry.specs.Events.{shown, each, seenAs, coordOf}
-use Rattle.geometry.specs.Told.{told, framed-then}
+use Rattle.geometries.specs.Geometry.{Coord}
+use Rattle.geometries.specs.Events.{shown, each, seenAs, coordOf}
+use Rattle.geometries.specs.Told.{told, framed-then}
 use Rattle.least.specs.Size.{count}
 use Rattle.least.specs.Said.{rest, kinds, mute}
 use Rattle.least.specs.Values.{Value, laneIn, tally, tally-most, tally-append, of-tails, count-dropped, pair-next, pair-gives}

@@ -15,10 +15,10 @@ use Rattle.store.specs.Lists.{Rec}
 use Rattle.coords.specs.Coords.{coordsOf}
 use Rattle.lines.specs.Lines.{orNone, flatS, polygonS, pointS}
 use Rattle.reader.specs.Reading.{partsS, spanS, found, polygonPart, kindS, geometryS, rootS}
-use Rattle.geometry.specs.Geometry.{Coord, Line, Rings, Simple, point, lineString, polygon, multiPoint, multiLineString, multiPolygon, circularString, compoundCurve, curvePolygon, multiCurve, multiSurface, polyhedralSurface, tin, triangle, typeOf}
-use Rattle.geometry.specs.Events.{each, group, coordOf, lineOf, simpleOf}
+use Rattle.geometries.specs.Geometry.{Coord, Line, Rings, Simple, point, lineString, polygon, multiPoint, multiLineString, multiPolygon, circularString, compoundCurve, curvePolygon, multiCurve, multiSurface, polyhedralSurface, tin, triangle, typeOf}
+use Rattle.geometries.specs.Events.{each, group, coordOf, lineOf, simpleOf}
 use Rattle.format.specs.Format.{joined}
-use Rattle.geometry.specs.Told.{told, then-done}
+use Rattle.geometries.specs.Told.{told, then-done}
 use Rattle.least.specs.Size.{count, numbers, weight}
 use Rattle.least.specs.Sums.{weights, spanWeight}
 use Rattle.least.specs.Least.{sum, words, ofPairs, ends, ofLines, leastOf}

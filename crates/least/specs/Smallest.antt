@@ -10,9 +10,9 @@ use Rattle.reader.specs.Reading.{rootS, readS}
 use Rattle.asking.specs.declared.typing.Typing.{Typing}
 use Rattle.writer_model.specs.Writer.{tree}
 use Rattle.writer_model.specs.Tree.{Holds}
-use Rattle.geometry.specs.Geometry.{Simple, typeOf}
-use Rattle.geometry.specs.Events.{eventsOf}
-use Rattle.geometry.specs.Told.{told}
+use Rattle.geometries.specs.Geometry.{Simple, typeOf}
+use Rattle.geometries.specs.Events.{eventsOf}
+use Rattle.geometries.specs.Told.{told}
 use Rattle.format.specs.Writable.{Held, Writable}
 use Rattle.format.specs.Writes.{ending}
 use Rattle.least.specs.Size.{sizeOf, Sound}

@@ -12,10 +12,10 @@ use Rattle.kinds.specs.Event.{xyE, coordinateE}
 use Rattle.kinds.specs.declared.event.Event.{Event}
 use Rattle.kinds.specs.declared.flags.Flags.{Flags}
 use Rattle.store.specs.Lists.{Rec}
-use Rattle.geometry.specs.Coordinate.{multi, is, bits, coordE}
+use Rattle.geometries.specs.Coordinate.{multi, is, bits, coordE}
 use Rattle.coords.specs.Coords.{Lanes, headOf, tailOf, dropO, dropped, tails, seen, coordsOf, taken, coordinateS, pairS}
-use Rattle.geometry.specs.Geometry.{Coord}
-use Rattle.geometry.specs.Events.{shown}
+use Rattle.geometries.specs.Geometry.{Coord}
+use Rattle.geometries.specs.Events.{shown}
 use Rattle.least.specs.Size.{count}
 use Rattle.least.specs.Least.{sum, there, words}
 use Rattle.least.specs.Said.{said, rest, kinds, mute}

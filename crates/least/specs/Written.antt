@@ -12,12 +12,12 @@ use borrow.Author.Tests.{le-ltb, lt-leb}
 use Rattle.laws.specs.Every.{never}
 use Rattle.kinds.specs.declared.flags.Flags.{Flags}
 use Rattle.store.specs.Lists.{Rec}
-use Rattle.geometry.specs.Coordinate.{is}
+use Rattle.geometries.specs.Coordinate.{is}
 use Rattle.asking.specs.declared.typing.Typing.{Typing}
 use Rattle.writer_model.specs.Writer.{longer, partOf, tree}
 use Rattle.writer_model.specs.Tree.{Holds}
-use Rattle.geometry.specs.Geometry.{Coord, Line, Rings, Simple}
-use Rattle.geometry.specs.Events.{shown}
+use Rattle.geometries.specs.Geometry.{Coord, Line, Rings, Simple}
+use Rattle.geometries.specs.Events.{shown}
 use Rattle.format.specs.Format.{joined, endsFrom}
 use Rattle.format.specs.FormatLaws.{xy-length, ends-length}
 use Rattle.format.specs.Writable.{All, Some, Has, HasRings, Held, coords, lines, polygons, Writable, a-point, a-line, a-polygon, many-points, many-lines, many-polygons, an-arc, a-surface, a-tin, a-triangle}

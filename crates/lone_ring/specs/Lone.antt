@@ -12,7 +12,7 @@ use Rattle.kinds.specs.Geometry.{loneGeometry}
 use Rattle.kinds.specs.declared.event.Event.{Event}
 use Rattle.kinds.specs.declared.flags.Flags.{Flags}
 use Rattle.store.specs.Lists.{Pools, listsOf}
-use Rattle.geometry.specs.Coordinate.{multi}
+use Rattle.geometries.specs.Coordinate.{multi}
 use Rattle.coords.specs.Coords.{Lanes, Coords, seen, coordsOf, pairS, coordsS}
 use Rattle.lines.specs.Lines.{flatO, flatS, ringsS, stretchesS}
 use Rattle.coords.specs.CoordLaws.{coords-end, coords-odd, coords-two}

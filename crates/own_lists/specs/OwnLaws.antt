@@ -15,7 +15,7 @@ use Rattle.store.specs.RecordLaws.{InPool}
 use Rattle.own_lists.specs.declared.own.Own.{Own}
 use Rattle.own_lists.specs.declared.own.Own.the-variants.{Point, Line, Polygon, MultiLineString, Tin, Triangle}
 use Rattle.coords.specs.declared.pairs.Seen.{Seen}
-use Rattle.geometry.specs.Coordinate.{multi}
+use Rattle.geometries.specs.Coordinate.{multi}
 use Rattle.coords.specs.Coords.{Coords, seen, coordsOf}
 use Rattle.coords.specs.Seen.{when, coordsIn}
 use Rattle.lines.specs.Lines.{orNone, flatS, stretchesS, multiLineS, triangleS, tinS, pointS}

@@ -6,7 +6,7 @@ use Prim.Native.Nat.{ℕ}
 use Rattle.kinds.specs.declared.flags.Flags.{Flags}
 use Rattle.kinds.specs.declared.geometry.Lone.{Lone}
 use Rattle.kinds.specs.declared.geometry.Lone.the-variants.{List as Alone, Other}
-use Rattle.geometry.specs.Coordinate.{multi}
+use Rattle.geometries.specs.Coordinate.{multi}
 use Rattle.store.specs.Lone.{LoneList, LoneAt}
 use Rattle.walks.specs.declared.walk.Role.{Role}
 use Rattle.walks.specs.declared.walk.Role.the-variants.{Polygon as AsPolygon}

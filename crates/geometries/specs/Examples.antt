@@ -6,9 +6,9 @@ use mathlib.Core.Option.{none, some}
 use Prim.Native.Nat.{zero}
 use Rattle.kinds.specs.Event.{beginE, endE, xyE}
 use Rattle.kinds.specs.declared.flags.Flags.{Flags}
-use Rattle.geometry.specs.Geometry.{Coord, flat, lineString, multiPolygon, multiSurface}
-use Rattle.geometry.specs.Coordinate.{coordE}
-use Rattle.geometry.specs.Events.{eventsOf}
+use Rattle.geometries.specs.Geometry.{Coord, flat, lineString, multiPolygon, multiSurface}
+use Rattle.geometries.specs.Coordinate.{coordE}
+use Rattle.geometries.specs.Events.{eventsOf}
 
 abbrev noFlags : Flags
 noFlags = record { z = false; m = false; t = false; tm = false }

@@ -7,8 +7,8 @@ use lib.ListN.{length}
 use Rattle.kinds.specs.Event.{beginE, endE, xyE}
 use Rattle.kinds.specs.declared.event.Event.{Event}
 use Rattle.kinds.specs.declared.flags.Flags.{Flags}
-use Rattle.geometry.specs.Coordinate.{multi, coordE}
-use Rattle.geometry.specs.Geometry.{Coord, Line, Segment, straight, arc, Curve, segment, compound, Surface, flat, curved, Simple, point, lineString, polygon, multiPoint, multiLineString, multiPolygon, circularString, compoundCurve, curvePolygon, multiCurve, multiSurface, polyhedralSurface, tin, triangle, simple, collection, Geometry}
+use Rattle.geometries.specs.Coordinate.{multi, coordE}
+use Rattle.geometries.specs.Geometry.{Coord, Line, Segment, straight, arc, Curve, segment, compound, Surface, flat, curved, Simple, point, lineString, polygon, multiPoint, multiLineString, multiPolygon, circularString, compoundCurve, curvePolygon, multiCurve, multiSurface, polyhedralSurface, tin, triangle, simple, collection, Geometry}
 
 -- ---- events, before others; `i` is the number that the events carry
 abbrev pub Tells : Type 0 → Type 0
