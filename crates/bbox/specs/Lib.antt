@@ -4,3 +4,5 @@ pub mod Laws
 pub mod Outcomes
 pub mod Pairs
 pub mod Edges
+pub mod Less
+pub mod Again

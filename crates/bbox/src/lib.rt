@@ -69,19 +69,19 @@ impl Box {
             greatest_y: raised(self.greatest_y, value_y),
         }
     }
-}
 
-// A last word without a partner is left out.
-pub fn box_of_words(words: &[u64]) -> Box
-    ensures { λ r. ⌜ r ≡ boxFrom beginning (now (words .entry)) ⌝ }
-{
-    let mut around = Box::empty();
-    let mut i = 0;
-    while i + 1 < words.len() {
-        around = around.widened(words[i], words[i + 1]);
-        i += 2;
+    // By a list's pairs; a last word without a partner is left out.
+    pub fn widened_by(self, words: &[u64]) -> Self
+        ensures { λ r. ⌜ r ≡ boxFrom self (now (words .entry)) ⌝ }
+    {
+        let mut around = self;
+        let mut i = 0;
+        while i + 1 < words.len() {
+            around = around.widened(words[i], words[i + 1]);
+            i += 2;
+        }
+        around
     }
-    around
 }
 
 // Only a NaN differs from itself, and `to_bits` takes none.

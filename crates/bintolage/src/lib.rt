@@ -8,14 +8,13 @@ use bbox::edges_of;
 use kinds::flags::Flags;
 ghost use mathlib.Core.Path.{_≡_};
 ghost use Rattle.laws.specs.Cut.{Said};
-ghost use Rattle.store.specs.Lists.{poolsOf, lentOf, recordWith};
+ghost use Rattle.store.specs.Lists.{poolsOf, recordWith};
 ghost use Rattle.log.specs.Log.{events as eventRecords};
-ghost use Rattle.store.specs.Records.{recordAt};
 ghost use Rattle.property_reader.specs.Reading.{reading, stopped as stopping};
 ghost use Rattle.log.specs.Values.{values};
 ghost use Rattle.property_writer.specs.Writing.{bytesAfter};
 ghost use Rattle.reader.specs.Reading.{readS};
-ghost use Rattle.record_box.specs.Boxed.{boxedOf};
+ghost use Rattle.record_box.specs.Boxed.{boxOf};
 ghost use Rattle.writing.specs.State.{memOf};
 ghost use Rattle.writing.specs.Calls.{started, eventCall, finishCall, nextCall};
 ghost use Rattle.runs.specs.Events.{eventsCall};
@@ -211,7 +210,7 @@ pub extern "C" fn bintolage_read_properties(
     read.number
 }
 
-// The box over the own xy list of record n, as bit patterns. Refused: 10, with the beginning box.
+// The box of record n, over its own pairs and then each part's, as bit patterns. Refused: 13, 10, with the beginning box.
 #[no_mangle]
 pub extern "C" fn bintolage_box(
     table: &[u8],
@@ -225,7 +224,7 @@ pub extern "C" fn bintolage_box(
     edges: &mut [u64; 4],
 ) -> u8
     ensures { λ r. let P = poolsOf (now (xy .entry)) (now (ends .entry)) (now (z .entry)) (now (m .entry)) (now (t .entry)) (now (tm .entry)) in
-        let boxed = boxedOf P (recordAt (now (table .entry)) (lentOf P) n) in
+        let boxed = boxOf (recordWith (now (table .entry)) P) n in
         ⌜ (r ≡ boxed .number) × (now (edges .exit) ≡ edgesOf (boxed .bbox)) ⌝ }
 {
     let boxed = record_box::box_at(table, xy, ends, z, m, t, tm, n as usize);

@@ -7,11 +7,10 @@ use lib.ListN.{take, drop}
 use Rattle.laws.specs.Script.{Script, out, Format, run}
 use Rattle.laws.specs.Cut.{recordsOf, roomOf, bytesOf, Said}
 use Rattle.kinds.specs.declared.flags.Flags.{Flags}
-use Rattle.store.specs.Lists.{Pools, recordWith, lentOf}
+use Rattle.store.specs.Lists.{Pools, recordWith}
 use Rattle.log.specs.Log.{events}
-use Rattle.store.specs.Records.{recordAt}
 use Rattle.record_box.specs.declared.Boxed.{Boxed}
-use Rattle.record_box.specs.Boxed.{boxedOf}
+use Rattle.record_box.specs.Boxed.{boxOf}
 use Rattle.reader.specs.Reading.{readS}
 use Rattle.property_writer.specs.Writing.{bytesAfter}
 use Rattle.property_reader.specs.Reading.{reading, stopped}
@@ -108,7 +107,7 @@ module _ (number number′ count count′ : ℕ) (log log′ : List ℕ) where
       let o = ran-once values (reading bytes has-columns columns stop) L number number′ count count′ log log′ h h′ in
       (o .0, o .1, o .2, k ∙ ap (stopped stop (reading bytes has-columns columns stop)) (o .0) ∙ sym k′)
 
-pub box-once : (table : List ℕ) (P : Pools) (n : ℕ) (b b′ : Boxed) → b ≡ boxedOf P (recordAt table (lentOf P) n) → b′ ≡ boxedOf P (recordAt table (lentOf P) n) → b ≡ b′
+pub box-once : (table : List ℕ) (P : Pools) (n : ℕ) (b b′ : Boxed) → b ≡ boxOf (recordWith table P) n → b′ ≡ boxOf (recordWith table P) n → b ≡ b′
 box-once table P n b b′ h h′ = h ∙ sym h′
 
 -- ---- the exported calls: the writing ones keep the state as words; read and read_properties say what the inner calls say (`said-once`), and the others' contracts are equations

@@ -1,24 +1,33 @@
--- SPEC 8.3: the box of a record, by its number, over its own xy list.
-use mathlib.Core.List.{List}
+-- SPEC 8.3, 8.4: the box of a record, by its number, over its own pairs and then each part's.
+use mathlib.Core.List.{List, []}
 use mathlib.Core.Option.{Option, none, some}
 use Prim.Native.Nat.{ℕ}
-use Rattle.kinds.specs.Geometry.{judgedNumber}
-use Rattle.kinds.specs.declared.geometry.Judged.{Judged}
-use Rattle.kinds.specs.declared.geometry.Judged.the-variants.{Good, Bad}
-use Rattle.store.specs.Lists.{Pools, listOf}
+use Rattle.store.specs.Lists.{Rec}
+use Rattle.tree_walk.specs.Tree.{Out, refused, went, through}
+use Rattle.tree_walk.specs.Records.{partsBy}
 use Rattle.bbox.specs.declared.Box.{Box}
-use Rattle.record_box.specs.declared.Boxed.{Boxed}
 use Rattle.bbox.specs.Box.{beginning, boxFrom}
+use Rattle.record_box.specs.declared.Boxed.{Boxed}
+
+-- the words of a list; one that is absent has none
+abbrev pub wordsOf : Option (List ℕ) → List ℕ
+wordsOf none = []
+wordsOf (some words) = words
 
 -- a bad record has no list of its own
-abbrev pub ownXy : Pools → Judged → Option (List ℕ)
-ownXy P Bad = none
-ownXy P (Good g) = listOf (P .xy) (g .xy)
+abbrev pub ownXy : Option Rec → List ℕ
+ownXy none = []
+ownXy (some r) = wordsOf (r .xy)
 
-abbrev pub boxOfList : Option (List ℕ) → Box
-boxOfList none = beginning
-boxOfList (some words) = boxFrom beginning words
+-- the box after a record's own xy list
+unfoldable pub ownBox : (ℕ → Option Rec) → ℕ → Box → Box
+ownBox get n b = boxFrom b (ownXy (get n))
 
--- a bad record or table gives 10, with the box as it began (SPEC 8.4)
-abbrev pub boxedOf : Pools → Judged → Boxed
-boxedOf P found = record { number = judgedNumber found; bbox = boxOfList (ownXy P found) }
+-- a refusal has the box as it began
+abbrev pub boxed : Out Box → Boxed
+boxed (refused number) = record { number = number; bbox = beginning }
+boxed (went b) = record { number = 0; bbox = b }
+
+-- record n is level 1, and 16 is the last
+unfoldable pub boxOf : (ℕ → Option Rec) → ℕ → Boxed
+boxOf get n = boxed (through (partsBy get) (ownBox get) 16 n beginning)

@@ -7,7 +7,7 @@ use native.Mathlib.Omega.{arith}
 use lib.ListN.{length, drop, length-take, length-drop}
 use lib.Seq.{length-sets}
 use lib.Dec.{leb, ltb, eqb}
-use borrow.Author.Tests.{leb-true, ltb-true, eqb-true}
+use borrow.Author.Tests.{leb-true, ltb-true, eqb-true, le-ltb}
 use Rattle.laws.specs.Every.{never, both}
 use Rattle.laws.specs.Blocks.{block, block-same, block-other}
 use Rattle.geometry_layout.specs.Geometry.{geometryBytes, geometryOf, soundGeometry, readGeometry}
@@ -37,6 +37,15 @@ record-is table pools n h = rw h
 pub record-none : (table : List ℕ) (pools : Lent) (n : ℕ) → hasRecord table n ≡ false → recordAt table pools n ≡ Bad
 unfolding recordAt
 record-none table pools n h = rw h
+
+-- a number that is not usable is no record's
+pub past-usable : (table : List ℕ) (pools : Lent) (n : ℕ) → 4096 ≤ n → recordAt table pools n ≡ Bad
+unfolding hasRecord
+past-usable table pools n h = record-none table pools n (no-record (tableGood table && ltb n (recordsLent table)) (ltb n 4096) (le-ltb n 4096 h))
+  where
+    no-record : (p q : Bool) → q ≡ false → (p && q) ≡ false
+    no-record true q e = e
+    no-record false q e = refl
 
 -- ---- what a good record's lists are bounded by
 abbrev pub InPool : Span → ℕ → ℕ → Type 0

@@ -1,0 +1,14 @@
+pub mod Tree
+pub mod Refusals
+pub mod Levels
+pub mod Widen
+pub mod Again
+pub mod Reached
+pub mod Memory
+pub mod Remembers
+pub mod Steps
+pub mod Visits
+pub mod Counts
+pub mod Marks
+pub mod Looks
+pub mod Records

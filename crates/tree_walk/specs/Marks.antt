@@ -1,0 +1,249 @@
+-- After a walk that refused nothing, the marked records are those that the plain walk reached.
+use mathlib.Core.Path.{_≡_, refl, sym, ap, _∙_}
+use mathlib.Core.Bool.{Bool, true, false, cond, _&&_, _||_}
+use mathlib.Core.List.{List, [], _∷_, _++_}
+use mathlib.Core.Option.{Option, none, some}
+use Prim.Native.Nat.{ℕ, zero, suc, _+_, _<_}
+use native.Mathlib.Omega.{arith}
+use lib.Dec.{leb, ltb, eqb}
+use lib.ListN.{length, getD, set, replicate, length-set, length-replicate}
+use lib.Seq.{getD-set-same}
+use borrow.Author.Tests.{lt-ltb, ltb-true, eq-eqb, ne-eqb, eqb-true, eqb-false}
+use Rattle.tree_walk.specs.declared.Parts.{Parts}
+use Rattle.tree_walk.specs.Tree.{Out, refused, went, through}
+use Rattle.tree_walk.specs.Widen.{all, Growing, growing}
+use Rattle.tree_walk.specs.Reached.{reached, joined}
+use Rattle.tree_walk.specs.Memory.{Left, left, next, skips, partsKept, foundKept, ownOnce, marking, walked, kept}
+use Rattle.tree_walk.specs.Remembers.{set-mark, at-first, Agree, agrees, so-went, none-marked}
+
+-- ---- a set of records is a value that is widened
+abbrev pub Set : Type 0
+Set = ℕ → Bool
+
+abbrev add : ℕ → Set → Set
+add n s = λ x. eqb x n || s x
+
+add-met : (n : ℕ) (s : Set) → add n (add n s) ≡ add n s
+add-met n s = λ i x. twice (eqb x n) (s x) i
+  where
+    twice : (a b : Bool) → (a || (a || b)) ≡ (a || b)
+    twice true b = refl
+    twice false b = refl
+
+add-stays : (v w : ℕ) (s : Set) → add v s ≡ s → add v (add w s) ≡ add w s
+add-stays v w s h = λ i x. past (eqb x v) (eqb x w) (s x) (ap (λ (t : Set). t x) h) i
+  where
+    past : (a b c : Bool) → (a || c) ≡ c → (a || (b || c)) ≡ (b || c)
+    past true true c h = refl
+    past true false c h = h
+    past false b c h = refl
+
+unfoldable flag : ℕ → Set → Set
+flag n = all add (n ∷ [])
+
+flag-is : (n : ℕ) (s : Set) (x : ℕ) → flag n s x ≡ (eqb x n || s x)
+unfolding flag all
+flag-is n s x = refl
+
+flags : Growing Set flag
+unfolding flag
+flags = growing add add-met add-stays (λ n. n ∷ [])
+
+-- whether a number is in a list
+unfoldable pub among : ℕ → List ℕ → Bool
+among x [] = false
+among x (y ∷ l) = eqb x y || among x l
+
+all-flags : (ns : List ℕ) (s : Set) (x : ℕ) → all flag ns s x ≡ (among x ns || s x)
+unfolding all among
+all-flags [] s x = refl
+all-flags (n ∷ ns) s x = all-flags ns (flag n s) x ∙ rw (flag-is n s x) (swap (eqb x n) (among x ns) (s x))
+  where
+    swap : (a b c : Bool) → (b || (a || c)) ≡ ((a || b) || c)
+    swap true true c = refl
+    swap true false c = refl
+    swap false b c = refl
+
+-- whether a record is marked
+abbrev pub marked : List ℕ → ℕ → Bool
+marked m x = ltb 0 (getD m x 0)
+
+either : {a b : Bool} (C : Type 0) → (a || b) ≡ true → (a ≡ true → C) → (b ≡ true → C) → C
+either {a} {b} C h f g = go a b h f g
+  where
+    go : (a b : Bool) → (a || b) ≡ true → (a ≡ true → C) → (b ≡ true → C) → C
+    go true b h f g = f refl
+    go false b h f g = g h
+
+or-left : (a b : Bool) → a ≡ true → (a || b) ≡ true
+or-left a b h = rw h
+
+or-right : (a b : Bool) → b ≡ true → (a || b) ≡ true
+or-right true b h = refl
+or-right false b h = h
+
+module _ (top : ℕ) where
+  -- a walk over sets beside any other: the marks stay among the flags, and what is flagged on the way is marked at the end
+  record Synced (s : Set) (m : List ℕ) (s′ : Set) (m′ : List ℕ) : Type 0 where
+    long : length m′ ≡ top
+    flagged : (x : ℕ) → marked m′ x ≡ true → s′ x ≡ true
+    new : (x : ℕ) → s′ x ≡ true → (s x || marked m′ x) ≡ true
+    stays : (x : ℕ) → marked m x ≡ true → marked m′ x ≡ true
+    grows : (x : ℕ) → s x ≡ true → s′ x ≡ true
+
+  unmoved : (s : Set) (m : List ℕ) → length m ≡ top → ((x : ℕ) → marked m x ≡ true → s x ≡ true) → Synced s m s m
+  unmoved s m h f = record { long = h; flagged = f; new = λ x g. or-left (s x) (marked m x) g; stays = λ x g. g; grows = λ x g. g }
+
+  both : {s s′ s″ : Set} {m m′ m″ : List ℕ} → Synced s m s′ m′ → Synced s′ m′ s″ m″ → Synced s m s″ m″
+  both {s} {s′} {s″} {m} {m′} {m″} p q =
+      record {
+        long = q .long;
+        flagged = q .flagged;
+        new = λ x g. either ((s x || marked m″ x) ≡ true) (q .new x g)
+            (λ a. either ((s x || marked m″ x) ≡ true) (p .new x a) (or-left (s x) (marked m″ x)) (λ b. or-right (s x) (marked m″ x) (q .stays x b)))
+            (or-right (s x) (marked m″ x));
+        stays = λ x g. q .stays x (p .stays x g);
+        grows = λ x g. q .grows x (p .grows x g);
+      }
+
+  module _ {S : Type 0} where
+    data Twin (s : Set) (m : List ℕ) : Left S → Left Set → Type 0 where
+      off : {c : ℕ} {b : S} {s′ : Set} {m′ : List ℕ} {v : ℕ} → Twin s m (left (suc c) b m′ v) (left (suc c) s′ m′ v)
+      on : {b : S} {s′ : Set} {m′ : List ℕ} {v : ℕ} → Synced s m s′ m′ → Twin s m (left 0 b m′ v) (left 0 s′ m′ v)
+
+    after : {s s′ : Set} {m m′ : List ℕ} {l : Left S} {l′ : Left Set} → Synced s m s′ m′ → Twin s′ m′ l l′ → Twin s m l l′
+    after p off = off
+    after p (on q) = on (both p q)
+
+    next-twin : {s : Set} {m : List ℕ} {l : Left S} {l′ : Left Set} (f : S → List ℕ → ℕ → Left S) (g : Set → List ℕ → ℕ → Left Set) → Twin s m l l′
+        → ((b : S) (s′ : Set) (m′ : List ℕ) (v : ℕ) → length m′ ≡ top → ((x : ℕ) → marked m′ x ≡ true → s′ x ≡ true) → Twin s′ m′ (f b m′ v) (g s′ m′ v))
+        → Twin s m (next l f) (next l′ g)
+    next-twin f g off h = off
+    next-twin f g (on {b} {s′} {m′} {v} p) h = after p (h b s′ m′ v (p .long) (p .flagged))
+
+    parts-twin : (K : ℕ → S → List ℕ → ℕ → Left S) (L : ℕ → Set → List ℕ → ℕ → Left Set)
+        → ((n : ℕ) (b : S) (s : Set) (m : List ℕ) (v : ℕ) → length m ≡ top → ((x : ℕ) → marked m x ≡ true → s x ≡ true) → Twin s m (K n b m v) (L n s m v))
+        → (c n : ℕ) (b : S) (s : Set) (m : List ℕ) (v : ℕ) → length m ≡ top → ((x : ℕ) → marked m x ≡ true → s x ≡ true)
+        → Twin s m (partsKept K c n b m v) (partsKept L c n s m v)
+    unfolding partsKept
+    parts-twin K L h zero n b s m v k f = on (unmoved s m k f)
+    parts-twin K L h (suc c) n b s m v k f =
+        next-twin (partsKept K c (n + 1)) (partsKept L c (n + 1)) (h n b s m v k f)
+        (λ b′ s′ m′ v′ k′ f′. parts-twin K L h c (n + 1) b′ s′ m′ v′ k′ f′)
+
+  -- what a record's own words make of a set
+  record Begun (n : ℕ) (s s₀ : Set) : Type 0 where
+    more : (x : ℕ) → s x ≡ true → s₀ x ≡ true
+    only : (x : ℕ) → s₀ x ≡ true → (s x || eqb x n) ≡ true
+    here : s₀ n ≡ true
+
+  begun : (n : ℕ) (s : Set) (m : List ℕ) → ((x : ℕ) → marked m x ≡ true → s x ≡ true) → Begun n s (ownOnce flag (getD m n 0) n s)
+  begun n s m f = go (getD m n 0) (f n)
+    where
+      turn : (a b : Bool) → (a || b) ≡ true → (b || a) ≡ true
+      turn true true h = refl
+      turn true false h = refl
+      turn false b h = rw h
+
+      go : (mark : ℕ) → (ltb 0 mark ≡ true → s n ≡ true) → Begun n s (ownOnce flag mark n s)
+      go zero h =
+          record {
+            more = λ x g. flag-is n s x ∙ or-right (eqb x n) (s x) g;
+            only = λ x g. turn (eqb x n) (s x) (sym (flag-is n s x) ∙ g);
+            here = flag-is n s n ∙ or-left (eqb n n) (s n) (eq-eqb n n refl);
+          }
+      go (suc j) h =
+          rw (ne-eqb (suc j) 0 (λ e. omega arith))
+          (record { more = λ x g. g; only = λ x g. or-left (s x) (eqb x n) g; here = h (lt-ltb 0 (suc j) (omega arith)) })
+
+  module _ {S : Type 0} where
+    mark-twin : (n k : ℕ) (s s₀ : Set) (m : List ℕ) → n < top → Begun n s s₀ → (l : Left S) (l′ : Left Set) → Twin s₀ m l l′
+        → Twin s m (next l (marking n (suc k))) (next l′ (marking n (suc k)))
+    mark-twin n k s s₀ m low w l l′ off = off
+    mark-twin n k s s₀ m low w l l′ (on {b} {s′} {m′} {v} p) = on done
+      where
+        it : (x : ℕ) → eqb x n ≡ true → marked (set m′ n (suc k)) x ≡ true
+        it x e =
+            let q : x ≡ n = eqb-true x n e in
+            let h : n < length m′ = omega (arith, p .long) in
+            rw (q, getD-set-same m′ n (suc k) 0 h) (lt-ltb 0 (suc k) (omega arith))
+
+        kept-mark : (x : ℕ) → marked m′ x ≡ true → marked (set m′ n (suc k)) x ≡ true
+        kept-mark x g = set-mark (λ y u. ltb 0 u ≡ true) m′ n (suc k) x g (lt-ltb 0 (suc k) (omega arith))
+
+        done : Synced s m s′ (set m′ n (suc k))
+        done =
+            record {
+              long = length-set m′ n (suc k) ∙ p .long;
+              flagged = λ x. set-mark (λ y u. ltb 0 u ≡ true → s′ y ≡ true) m′ n (suc k) x (p .flagged x) (λ g. p .grows n (w .here));
+              new = λ x g. either ((s x || marked (set m′ n (suc k)) x) ≡ true) (p .new x g)
+                  (λ a. either ((s x || marked (set m′ n (suc k)) x) ≡ true) (w .only x a) (or-left (s x) (marked (set m′ n (suc k)) x)) (λ e. or-right (s x) (marked (set m′ n (suc k)) x) (it x e)))
+                  (λ a. or-right (s x) (marked (set m′ n (suc k)) x) (kept-mark x a));
+              stays = λ x g. kept-mark x (p .stays x g);
+              grows = λ x g. p .grows x (w .more x g);
+            }
+
+    module _ (tick : ℕ → ℕ) (get : ℕ → Option Parts) (own : ℕ → S → S) (low : (n : ℕ) (r : Parts) → get n ≡ some r → n < top) where
+      twins-below : (k n : ℕ) (b : S) (s : Set) (m : List ℕ) (v : ℕ)
+          → ((x : ℕ) (c : S) (s : Set) (m : List ℕ) (u : ℕ) → length m ≡ top → ((y : ℕ) → marked m y ≡ true → s y ≡ true) → Twin s m (kept tick get own k x c m u) (kept tick get flag k x s m u))
+          → length m ≡ top → ((y : ℕ) → marked m y ≡ true → s y ≡ true) → Twin s m (kept tick get own (suc k) n b m v) (kept tick get flag (suc k) n s m v)
+      unfolding kept walked
+      twins-below k n b s m v ih h f = by-mark (skips (getD m n 0) (suc k))
+        where
+          one : Parts → Left S
+          one r = partsKept (kept tick get own k) (r .count) (r .first) (ownOnce own (getD m n 0) n b) m (tick v)
+
+          two : Parts → Left Set
+          two r = partsKept (kept tick get flag k) (r .count) (r .first) (ownOnce flag (getD m n 0) n s) m (tick v)
+
+          by-record : (o : Option Parts) → get n ≡ o
+              → Twin s m (foundKept o b m (tick v) (λ r. next (one r) (marking n (suc k)))) (foundKept o s m (tick v) (λ r. next (two r) (marking n (suc k))))
+          by-record none e = off
+          by-record (some r) e =
+              let w = begun n s m f in
+              mark-twin n k s (ownOnce flag (getD m n 0) n s) m (low n r e) w (one r) (two r)
+              (parts-twin (kept tick get own k) (kept tick get flag k) ih (r .count) (r .first) (ownOnce own (getD m n 0) n b) (ownOnce flag (getD m n 0) n s) m (tick v) h (λ y g. w .more y (f y g)))
+
+          by-mark : (t : Bool)
+              → Twin s m (cond t (left 0 b m (tick v)) (foundKept (get n) b m (tick v) (λ r. next (one r) (marking n (suc k)))))
+              (cond t (left 0 s m (tick v)) (foundKept (get n) s m (tick v) (λ r. next (two r) (marking n (suc k)))))
+          by-mark true = on (unmoved s m h f)
+          by-mark false = by-record (get n) refl
+
+      twins : (k n : ℕ) (b : S) (s : Set) (m : List ℕ) (v : ℕ) → length m ≡ top → ((y : ℕ) → marked m y ≡ true → s y ≡ true)
+          → Twin s m (kept tick get own k n b m v) (kept tick get flag k n s m v)
+      unfolding kept
+      twins zero n b s m v h f = off
+      twins (suc k) n b s m v h f = twins-below k n b s m v (twins k) h f
+
+      -- what the set is at the end, by the marks
+      as-marked : (s : Set) (m : List ℕ) → Synced (λ x. false) (replicate top 0) s m → (x : ℕ) → s x ≡ marked m x
+      as-marked s m p x = go (s x) (marked m x) (p .new x) (p .flagged x)
+        where
+          go : (a b : Bool) → (a ≡ true → b ≡ true) → (b ≡ true → a ≡ true) → a ≡ b
+          go true b f g = sym (f refl)
+          go false true f g = g refl
+          go false false f g = refl
+
+      ended : (o : Out Set) (x : ℕ) (ns : List ℕ) {l : Left S} {l′ : Left Set} → Twin (λ x. false) (replicate top 0) l l′ → Agree flags get tick o l′
+          → ((e : Set) → o ≡ went e → e x ≡ among x ns) → {b : S} {m : List ℕ} {v : ℕ} → l ≡ left 0 b m v → marked m x ≡ among x ns
+      ended o x ns (off {c}) a h e = let z : suc c ≡ 0 = cc in absurd (omega arith)
+      ended o x ns (on {s′} {m′} p) a h {m} e =
+          let q : m ≡ m′ = cc in
+          ap (λ (w : List ℕ). marked w x) q ∙ sym (as-marked s′ m′ p x) ∙ h s′ (so-went flags get tick a refl refl)
+
+      -- after a walk that refused nothing, from no mark at all: the marked records are those that the plain walk reached
+      pub marks-are : (k n : ℕ) (b : S) (u : ℕ) {e : S} {m : List ℕ} {v : ℕ} → kept tick get own k n b (replicate top 0) u ≡ left 0 e m v
+          → (x : ℕ) → marked m x ≡ among x (reached get k n)
+      marks-are k n b u h x =
+          ended (through get flag k n (λ y. false)) x (reached get k n)
+          (twins k n b (λ y. false) (replicate top 0) u (length-replicate top 0) (λ y g. absurd (no-mark y g)))
+          (agrees flags get tick k n (λ y. false) (replicate top 0) u (none-marked flags get tick top (λ y. false)))
+          (λ s g. ap (λ (t : Set). t x) (sym (joined get flag k n (λ y. false) s g)) ∙ all-flags (reached get k n) (λ y. false) x ∙ or-false (among x (reached get k n))) h
+        where
+          no-mark : (y : ℕ) → marked (replicate top 0) y ≡ true → ⊥
+          no-mark y g = omega (arith, ltb-true 0 (getD (replicate top 0) y 0) g, at-first top y)
+
+          or-false : (a : Bool) → (a || false) ≡ a
+          or-false true = refl
+          or-false false = refl

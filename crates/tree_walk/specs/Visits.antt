@@ -1,0 +1,230 @@
+-- How many records the walk with a memory enters: at most one, and the places in all parts lists as often as there are levels.
+-- A record that is not skipped is marked deeper than before, so it is walked through once for each level at most.
+use mathlib.Core.Path.{_≡_, refl, sym, ap, _∙_}
+use mathlib.Core.Bool.{Bool, true, false, cond, _&&_}
+use mathlib.Core.List.{List}
+use mathlib.Core.Option.{Option, none, some}
+use Prim.Native.Nat.{ℕ, zero, suc, _+_, _-_, _*_, _≤_, _<_}
+use native.Mathlib.Omega.{arith}
+use native.Mathlib.Nat.{mul-le-mul-left, mul-suc, mul-zero, mul-add, mul-comm}
+use lib.Dec.{leb, ltb, eqb}
+use lib.ListN.{length, getD, set, replicate, length-set, length-replicate}
+use lib.Seq.{getD-set-same, getD-set-other}
+use borrow.Author.Tests.{lt-ltb, leb-false, ltb-true, ltb-false}
+use Rattle.tree_walk.specs.declared.Parts.{Parts}
+use Rattle.tree_walk.specs.Memory.{Left, left, next, skips, partsKept, foundKept, ownOnce, marking, walked, kept}
+use Rattle.tree_walk.specs.Remembers.{at-first}
+
+-- places in a record's parts list
+abbrev pub placesOf : Option Parts → ℕ
+placesOf none = 0
+placesOf (some r) = r .count
+
+-- places in the parts lists of so many records, from a number on
+unfoldable pub places : (ℕ → Option Parts) → ℕ → ℕ → ℕ
+places get zero n = 0
+places get (suc f) n = placesOf (get n) + places get f (n + 1)
+
+-- how often a record may still be walked through: at each level above its mark
+abbrev room : ℕ → ℕ → ℕ
+room most zero = most
+room most (suc k) = k
+
+room-left : (most k mark : ℕ) → suc k ≤ most → skips mark (suc k) ≡ false → suc k ≤ room most mark
+room-left most k zero h s = h
+room-left most k (suc j) h s = go (ltb 0 (suc j)) (lt-ltb 0 (suc j) (omega arith)) s
+  where
+    go : (t : Bool) → t ≡ true → (t && leb (suc j) (suc k)) ≡ false → suc k ≤ j
+    go true e s = omega (arith, leb-false (suc j) (suc k) s)
+    go false e s = let z : _≡_ {A = ℕ} 0 1 = cc in absurd (omega arith)
+
+-- a record is paid for by one time less
+paid : (a k r : ℕ) → suc k ≤ r → a * k + a ≤ a * r
+paid a k r h = omega (arith, mul-le-mul-left a h, mul-suc a k)
+
+module _ (get : ℕ → Option Parts) (most top : ℕ) where
+  -- the entries that so many records from n on may still ask for
+  unfoldable work : ℕ → ℕ → List ℕ → ℕ
+  work zero n m = 0
+  work (suc f) n m = placesOf (get n) * room most (getD m n 0) + work f (n + 1) m
+
+  abbrev from : ℕ → List ℕ → ℕ
+  from n m = work (top - n) n m
+
+  at-one : (n : ℕ) (m : List ℕ) → n < top → from n m ≡ placesOf (get n) * room most (getD m n 0) + from (n + 1) m
+  unfolding work
+  at-one n m h = let e : top - n ≡ suc (top - (n + 1)) = omega arith in rw e
+
+  past : (n : ℕ) (m : List ℕ) → top ≤ n → from n m ≡ 0
+  unfolding work
+  past n m h = let e : top - n ≡ 0 = omega arith in rw e
+
+  data Where (n : ℕ) : Type 0 where
+    inside : n < top → Where n
+    outside : top ≤ n → Where n
+
+  place : (n : ℕ) → Where n
+  place n = go (ltb n top) refl
+    where
+      go : (t : Bool) → ltb n top ≡ t → Where n
+      go true e = inside (ltb-true n top e)
+      go false e = outside (ltb-false n top e)
+
+  step-less : (n : ℕ) (m : List ℕ) → from (n + 1) m ≤ from n m
+  step-less n m = go (place n)
+    where
+      go : Where n → from (n + 1) m ≤ from n m
+      go (inside h) = omega (arith, at-one n m h)
+      go (outside h) = omega (arith, past n m h, past (n + 1) m (omega arith))
+
+  step-same : (n : ℕ) (m m′ : List ℕ) → getD m′ n 0 ≡ getD m n 0 → from n m′ + from (n + 1) m ≡ from n m + from (n + 1) m′
+  step-same n m m′ e = go (place n)
+    where
+      go : Where n → from n m′ + from (n + 1) m ≡ from n m + from (n + 1) m′
+      go (inside h) = rw (at-one n m h, at-one n m′ h, e) (omega arith)
+      go (outside h) = omega (arith, past n m h, past n m′ h, past (n + 1) m (omega arith), past (n + 1) m′ (omega arith))
+
+  -- over a stretch of records
+  less : (d n : ℕ) (m : List ℕ) → from (n + d) m ≤ from n m
+  less zero n m = let e : n + 0 ≡ n = omega arith in rw e (omega arith)
+  less (suc d) n m = let e : n + suc d ≡ n + 1 + d = omega arith in rw e (omega (arith, less d (n + 1) m, step-less n m))
+
+  alike : (d n : ℕ) (m m′ : List ℕ) → ((x : ℕ) → x < n + d → getD m′ x 0 ≡ getD m x 0) → from n m′ + from (n + d) m ≡ from n m + from (n + d) m′
+  alike zero n m m′ h = let e : n + 0 ≡ n = omega arith in rw e (omega arith)
+  alike (suc d) n m m′ h =
+      let e : n + suc d ≡ n + 1 + d = omega arith in
+      rw e (omega (arith, alike d (n + 1) m m′ (λ x k. h x (omega arith)), step-same n m m′ (h n (omega arith))))
+
+  -- a mark that is set changes nothing above it
+  above-set : (f n x v : ℕ) (m : List ℕ) → x < n → work f n (set m x v) ≡ work f n m
+  unfolding work
+  above-set zero n x v m h = refl
+  above-set (suc f) n x v m h = rw (getD-set-other m x n v 0 (λ e. omega arith), above-set f (n + 1) x v m (omega arith))
+
+  -- a record whose parts lie above it
+  module _ (n : ℕ) (m : List ℕ) (r : Parts) (e : get n ≡ some r) (up : n < r .first) (low : n < top) where
+    at-record : from n m ≡ r .count * room most (getD m n 0) + from (n + 1) m
+    at-record = at-one n m low ∙ ap (λ (o : Option Parts). placesOf o * room most (getD m n 0) + from (n + 1) m) e
+
+    at-set : (k : ℕ) (m₁ : List ℕ) → length m₁ ≡ top → from n (set m₁ n (suc k)) ≡ r .count * k + from (n + 1) m₁
+    at-set k m₁ h =
+        let l : n < length m₁ = omega arith in
+        at-one n (set m₁ n (suc k)) low
+        ∙ rw (getD-set-same m₁ n (suc k) 0 l, e, above-set (top - (n + 1)) (n + 1) n (suc k) m₁ (omega arith))
+
+    to-first : n + 1 + (r .first - (n + 1)) ≡ r .first
+    to-first = omega arith
+
+    between : (m₁ : List ℕ) → ((x : ℕ) → x < r .first → getD m₁ x 0 ≡ getD m x 0) → from (n + 1) m₁ + from (r .first) m ≡ from (n + 1) m + from (r .first) m₁
+    between m₁ h = rw to-first at (alike (r .first - (n + 1)) (n + 1) m m₁ (λ x g. h x (omega (arith, to-first))))
+
+    beyond : from (r .first) m ≤ from (n + 1) m
+    beyond = rw to-first at (less (r .first - (n + 1)) (n + 1) m)
+
+  -- with no mark set, each place in a parts list may be entered once for each level
+  all-work : (f n k : ℕ) → work f n (replicate k 0) ≡ most * places get f n
+  unfolding work places
+  all-work zero n k = sym (mul-zero most)
+  all-work (suc f) n k = rw (at-first k n, all-work f (n + 1) k, mul-add most (placesOf (get n)) (places get f (n + 1)), mul-comm (placesOf (get n)) most)
+
+  at-first-work : (n k : ℕ) → from n (replicate k 0) ≤ most * places get top 0
+  at-first-work n k =
+      let z : top - 0 ≡ top = omega arith in
+      let a : 0 + n ≡ n = omega arith in
+      let whole : from 0 (replicate k 0) ≡ most * places get top 0 = ap (λ (f : ℕ). work f 0 (replicate k 0)) z ∙ all-work top 0 k in
+      rw whole at (rw a at (less n 0 (replicate k 0)))
+
+  -- ---- what a walk from record n leaves, where `cost` records were entered from outside
+  abbrev still : ℕ → ℕ → List ℕ → ℕ
+  still n zero m = from n m
+  still n (suc c) m = 0
+
+  record Spent (n v cost : ℕ) (m : List ℕ) (c : ℕ) (m′ : List ℕ) (v′ : ℕ) : Type 0 where
+    long : length m′ ≡ top
+    same : (x : ℕ) → x < n → getD m′ x 0 ≡ getD m x 0
+    few : v′ + still n c m′ ≤ v + cost + from n m
+
+  module _ {S : Type 0} where
+    abbrev Within : ℕ → ℕ → ℕ → List ℕ → Left S → Type 0
+    Within n v cost m (left c b m′ v′) = Spent n v cost m c m′ v′
+
+    -- a part and then the others
+    second : (n v c : ℕ) (m m₁ : List ℕ) (v₁ : ℕ) → Spent n v 1 m 0 m₁ v₁ → (l : Left S) → Within (n + 1) v₁ c m₁ l → Within n v (suc c) m l
+    second n v c m m₁ v₁ w (left zero b m₂ v₂) u =
+        record {
+          long = u .long;
+          same = λ x h. u .same x (omega arith) ∙ w .same x h;
+          few = omega (arith, w .few, u .few, step-same n m₁ m₂ (u .same n (omega arith)));
+        }
+    second n v c m m₁ v₁ w (left (suc z) b m₂ v₂) u =
+        record {
+          long = u .long;
+          same = λ x h. u .same x (omega arith) ∙ w .same x h;
+          few = omega (arith, w .few, u .few, step-less n m₁);
+        }
+
+    next-within : (n v c : ℕ) (m : List ℕ) (l : Left S) (f : S → List ℕ → ℕ → Left S) → Within n v 1 m l
+        → ((b : S) (m₁ : List ℕ) (v₁ : ℕ) → length m₁ ≡ top → Within (n + 1) v₁ c m₁ (f b m₁ v₁)) → Within n v (suc c) m (next l f)
+    next-within n v c m (left zero b m₁ v₁) f w h = second n v c m m₁ v₁ w (f b m₁ v₁) (h b m₁ v₁ (w .long))
+    next-within n v c m (left (suc z) b m₁ v₁) f w h = record { long = w .long; same = w .same; few = omega (arith, w .few) }
+
+    parts-within : (K : ℕ → S → List ℕ → ℕ → Left S) → ((n : ℕ) (b : S) (m : List ℕ) (v : ℕ) → length m ≡ top → Within n v 1 m (K n b m v))
+        → (c n : ℕ) (b : S) (m : List ℕ) (v : ℕ) → length m ≡ top → Within n v c m (partsKept K c n b m v)
+    unfolding partsKept
+    parts-within K h zero n b m v k = record { long = k; same = λ x g. refl; few = omega arith }
+    parts-within K h (suc c) n b m v k =
+        next-within n v c m (K n b m v) (partsKept K c (n + 1)) (h n b m v k) (λ b₁ m₁ v₁ k₁. parts-within K h c (n + 1) b₁ m₁ v₁ k₁)
+
+    -- a record behind its parts
+    module _ (n : ℕ) (m : List ℕ) (r : Parts) (e : get n ≡ some r) (up : n < r .first) (low : n < top) where
+      marked-within : (k v u : ℕ) → suc k ≤ room most (getD m n 0) → u ≤ v + 1
+          → (l : Left S) → Within (r .first) u (r .count) m l → Within n v 1 m (next l (marking n (suc k)))
+      marked-within k v u h t (left zero b m₁ v₁) w =
+          record {
+            long = length-set m₁ n (suc k) ∙ w .long;
+            same = λ x g. getD-set-other m₁ n x (suc k) 0 (λ q. omega arith) ∙ w .same x (omega arith);
+            few = omega (arith, w .few, at-record n m r e up low, at-set n m r e up low k m₁ (w .long), between n m r e up low m₁ (w .same), paid (r .count) k (room most (getD m n 0)) h);
+          }
+      marked-within k v u h t (left (suc z) b m₁ v₁) w =
+          record {
+            long = w .long;
+            same = λ x g. w .same x (omega arith);
+            few = omega (arith, w .few, at-record n m r e up low, beyond n m r e up low, paid (r .count) k (room most (getD m n 0)) h);
+          }
+
+    module _ (own : ℕ → S → S) (tick : ℕ → ℕ) (ticks : (v : ℕ) → tick v ≤ v + 1)
+        (up : (n : ℕ) (r : Parts) → get n ≡ some r → n < r .first) (low : (n : ℕ) (r : Parts) → get n ≡ some r → n < top) where
+      within-below : (k n : ℕ) (b : S) (m : List ℕ) (v : ℕ) → suc k ≤ most
+          → ((x : ℕ) (c : S) (m : List ℕ) (u : ℕ) → length m ≡ top → Within x u 1 m (kept tick get own k x c m u))
+          → length m ≡ top → Within n v 1 m (kept tick get own (suc k) n b m v)
+      unfolding kept walked
+      within-below k n b m v deep ih h = by-mark (skips (getD m n 0) (suc k)) refl
+        where
+          in-parts : Parts → Left S
+          in-parts r = partsKept (kept tick get own k) (r .count) (r .first) (ownOnce own (getD m n 0) n b) m (tick v)
+
+          by-record : (o : Option Parts) → get n ≡ o → skips (getD m n 0) (suc k) ≡ false
+              → Within n v 1 m (foundKept o b m (tick v) (λ r. next (in-parts r) (marking n (suc k))))
+          by-record none e s = record { long = h; same = λ x g. refl; few = omega (arith, ticks v) }
+          by-record (some r) e s =
+              marked-within n m r e (up n r e) (low n r e) k v (tick v) (room-left most k (getD m n 0) deep s) (ticks v) (in-parts r)
+              (parts-within (kept tick get own k) ih (r .count) (r .first) (ownOnce own (getD m n 0) n b) m (tick v) h)
+
+          by-mark : (t : Bool) → skips (getD m n 0) (suc k) ≡ t
+              → Within n v 1 m (cond t (left 0 b m (tick v)) (foundKept (get n) b m (tick v) (λ r. next (in-parts r) (marking n (suc k)))))
+          by-mark true s = record { long = h; same = λ x g. refl; few = omega (arith, ticks v) }
+          by-mark false s = by-record (get n) refl s
+
+      within : (k n : ℕ) (b : S) (m : List ℕ) (v : ℕ) → k ≤ most → length m ≡ top → Within n v 1 m (kept tick get own k n b m v)
+      unfolding kept
+      within zero n b m v deep h = record { long = h; same = λ x g. refl; few = omega (arith, ticks v) }
+      within (suc k) n b m v deep h = within-below k n b m v deep (λ x c m′ u g. within k x c m′ u (omega arith) g) h
+
+      at-most : (n : ℕ) (l : Left S) (c : ℕ) (b : S) (m m′ : List ℕ) (v : ℕ) → Within n 0 1 m l → l ≡ left c b m′ v → v ≤ 1 + from n m
+      at-most n (left c₀ b₀ m₀ v₀) c b m m′ v w e = let q : v₀ ≡ v = cc in omega (arith, w .few)
+
+      pub few-entered : (k n : ℕ) (b : S) {c : ℕ} {e : S} {m : List ℕ} {v : ℕ} → k ≤ most
+          → kept tick get own k n b (replicate top 0) 0 ≡ left c e m v → v ≤ 1 + most * places get top 0
+      few-entered k n b {c} {e} {m} {v} deep h =
+          omega
+          (arith, at-most n (kept tick get own k n b (replicate top 0) 0) c e (replicate top 0) m v (within k n b (replicate top 0) 0 deep (length-replicate top 0)) h, at-first-work n top)
