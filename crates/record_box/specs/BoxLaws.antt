@@ -3,6 +3,7 @@ use mathlib.Core.Path.{_≡_, refl, sym, ap, subst, _∙_}
 use mathlib.Core.List.{List, [], _∷_}
 use mathlib.Core.Option.{Option, none, some}
 use Prim.Native.Nat.{ℕ, _≤_}
+use native.Mathlib.Omega.{arith}
 use lib.ListN.{replicate}
 use Rattle.kinds.specs.declared.geometry.Lent.{Lent}
 use Rattle.store.specs.RecordLaws.{past-usable}
@@ -51,12 +52,12 @@ past-box table P n h = bad-box (recordWith table P) n (with-bad table P n (past-
 
 -- ---- the answer, by what the walk with a memory left
 module _ (table : List ℕ) (P : Pools) (n : ℕ) {lent : Lent} (l : lent ≡ lentOf P) (r : Boxed) {first : Box} (q : first ≡ beginning) {m : List ℕ}
-    (h : kept uncounted (partsLent table lent) (ownLent table lent (P .xy)) 16 n first (replicate 4096 0) 0 ≡ left (r .number) (r .bbox) m 0) where
+    (h : kept uncounted (partsLent table lent) (ownLent table lent (P .xy)) 16 n first (replicate 4096 17) 0 ≡ left (r .number) (r .bbox) m 0) where
   abbrev get : ℕ → Option Rec
   get = recordWith table P
 
   abbrev walk : (ℕ → Option Parts) → (ℕ → Box → Box) → Box → Left Box
-  walk records own b = kept uncounted records own 16 n b (replicate 4096 0) 0
+  walk records own b = kept uncounted records own 16 n b (replicate 4096 17) 0
 
   went-so : walk (partsBy get) (ownBox get) beginning ≡ left (r .number) (r .bbox) m 0
   went-so =
@@ -66,8 +67,8 @@ module _ (table : List ℕ) (P : Pools) (n : ℕ) {lent : Lent} (l : lent ≡ le
 
   agreed : Agree (box-grows get) (partsBy get) uncounted (through (partsBy get) (ownBox get) 16 n beginning) (walk (partsBy get) (ownBox get) beginning)
   agreed =
-      agrees (box-grows get) (partsBy get) uncounted 16 n beginning (replicate 4096 0) 0
-      (none-marked (box-grows get) (partsBy get) uncounted 4096 beginning)
+      agrees (box-grows get) (partsBy get) uncounted 16 n beginning (replicate 4096 17) 0 (omega arith)
+      (none-marked (box-grows get) (partsBy get) uncounted 17 4096 beginning refl)
 
   pub refused-box : (r .number ≡ 0 → ⊥) → boxed (refused (r .number)) ≡ boxOf get n
   unfolding boxOf

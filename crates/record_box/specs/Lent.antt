@@ -4,7 +4,6 @@ use mathlib.Core.Bool.{cond}
 use mathlib.Core.List.{List, [], _∷_}
 use mathlib.Core.Option.{Option, none, some}
 use Prim.Native.Nat.{ℕ, _+_}
-use lib.Dec.{eqb}
 use lib.ListN.{length, getD, set}
 use Rattle.kinds.specs.Geometry.{loneGeometry}
 use Rattle.kinds.specs.declared.geometry.Geometry.{Geometry}
@@ -20,7 +19,7 @@ use Rattle.store.specs.RecordLaws.{InPool}
 use Rattle.store.specs.Lone.{LoneAt, LoneList}
 use Rattle.store.specs.Lists.{Pools, lentOf, listOf, partsOf, seen, recordWith}
 use Rattle.tree_walk.specs.declared.Parts.{Parts}
-use Rattle.tree_walk.specs.Memory.{Left, left, next, partsKept, ownOnce, marking, walked}
+use Rattle.tree_walk.specs.Memory.{Left, left, next, isMark, partsKept, ownOnce, marking, walked}
 use Rattle.tree_walk.specs.Records.{partsFrom, partsLent, bad-parts, good-parts}
 use Rattle.tree_walk.specs.Steps.{in-bad, in-good}
 use Rattle.bbox.specs.declared.Box.{Box}
@@ -46,7 +45,7 @@ by-lent table P = λ i n b. boxFrom b (go (recordAt table (lentOf P) n) i)
 
 -- its own list is looked at where it has no mark
 abbrev pub ownLooked : List ℕ → ℕ → Span → Box → Box
-ownLooked xy mark s b = cond (eqb mark 0) (boxFrom b (wordsOf (listOf xy s))) b
+ownLooked xy mark s b = cond (isMark mark) b (boxFrom b (wordsOf (listOf xy s)))
 
 module _ (table : List ℕ) (lent : Lent) (xy : List ℕ) (part : ℕ → Box → List ℕ → ℕ → Left Box) (levels n : ℕ) (b : Box) (m : List ℕ) where
   pub bad-walked : {j : Judged} → j ≡ recordAt table lent n → j ≡ Bad → walked (partsLent table lent) (ownLent table lent xy) part levels n b m 0 ≡ left 10 b m 0
@@ -54,7 +53,7 @@ module _ (table : List ℕ) (lent : Lent) (xy : List ℕ) (part : ℕ → Box �
 
   own-is : (g : Geometry) → recordAt table lent n ≡ Good g → {c : Box} → c ≡ ownLooked xy (getD m n 0) (g .xy) b → c ≡ ownOnce (ownLent table lent xy) (getD m n 0) n b
   unfolding ownLent
-  own-is g h p = p ∙ ap (λ (j : Judged). cond (eqb (getD m n 0) 0) (boxFrom b (ownJudged xy j)) b) (sym h)
+  own-is g h p = p ∙ ap (λ (j : Judged). cond (isMark (getD m n 0)) b (boxFrom b (ownJudged xy j))) (sym h)
 
   pub good-walked : {j : Judged} {g : Geometry} {r : Parts} {c : Box} → j ≡ recordAt table lent n → j ≡ Good g → r ≡ partsFrom n (partsOf (g .parts)) → c ≡ ownLooked xy (getD m n 0) (g .xy) b
       → walked (partsLent table lent) (ownLent table lent xy) part levels n b m 0 ≡ next (partsKept part (r .count) (r .first) c m 0) (marking n levels)

@@ -7,6 +7,7 @@ use kinds::geometry::Span;
 use kinds::refusal;
 use kinds::usable;
 use tree_walk::Marks;
+use tree_walk::NONE;
 use tree_walk::is_clear;
 use tree_walk::parts_of;
 ghost use mathlib.Core.Path.{_≡_};
@@ -26,11 +27,11 @@ pub struct Boxed {
 }
 
 // A record's own list is looked at only where the record was never walked through.
-fn own_once(xy: &[u64], s: Span, mark: u8, around: Box) -> Box
+fn own_once(xy: &[u64], s: Span, mark: u16, around: Box) -> Box
     requires { ⌜ InPool s (length (now xy)) 131072 ⌝ }
     ensures { λ r. ⌜ r ≡ ownLooked (now (xy .entry)) mark s around ⌝ }
 {
-    if mark != 0 {
+    if is_clear(mark, usable::LEVELS) {
         return around;
     }
     match s {
@@ -74,7 +75,7 @@ fn enter(
     if let Lone::List { start, count } = store::lone_list_at(table, lent.xy, n) {
         let own = Span::Stretch { start, count };
         let bbox = own_once(xy, own, mark, around);
-        marks[n] = levels;
+        marks[n] = levels as u16;
         return Boxed {
             number: refusal::DONE,
             bbox,
@@ -122,7 +123,7 @@ fn walk(
         so_far = r.bbox;
         i += 1;
     }
-    marks[n] = levels;
+    marks[n] = levels as u16;
     Boxed {
         number: refusal::DONE,
         bbox: so_far,
@@ -156,7 +157,7 @@ pub fn box_at(
         return refuse(refusal::BAD_RECORD);
     }
     let lent = Lent::new(xy.len(), ends.len(), z.len(), m.len(), t.len(), tm.len());
-    let mut marks = [0; usable::RECORDS];
+    let mut marks = [NONE; usable::RECORDS];
     let walked = enter(table, xy, lent, &mut marks, n, usable::LEVELS, Box::empty());
     if walked.number != refusal::DONE {
         return refuse(walked.number);

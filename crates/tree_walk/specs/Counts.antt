@@ -6,10 +6,9 @@ use mathlib.Core.List.{List}
 use mathlib.Core.Option.{Option, none, some}
 use Prim.Native.Nat.{ℕ, zero, suc, _+_, _*_, _≤_, _<_}
 use native.Mathlib.Omega.{arith}
-use lib.Dec.{eqb}
 use lib.ListN.{getD, replicate}
 use Rattle.tree_walk.specs.declared.Parts.{Parts}
-use Rattle.tree_walk.specs.Memory.{Left, left, next, skips, partsKept, foundKept, ownOnce, marking, walked, kept}
+use Rattle.tree_walk.specs.Memory.{Left, left, next, skips, isMark, partsKept, foundKept, ownOnce, marking, walked, kept}
 use Rattle.tree_walk.specs.Visits.{places, few-entered}
 
 module _ {S R : Type 0} (Rel : S → R → Type 0) where
@@ -35,11 +34,11 @@ module _ {S R : Type 0} (Rel : S → R → Type 0) where
   module _ (tick tock : ℕ → ℕ) (get : ℕ → Option Parts) (own : ℕ → S → S) (eigen : ℕ → R → R)
       (keeps : (n : ℕ) (b : S) (d : R) → Rel b d → Rel (own n b) (eigen n d)) where
     once-like : (mark n : ℕ) (b : S) (d : R) → Rel b d → Rel (ownOnce own mark n b) (ownOnce eigen mark n d)
-    once-like mark n b d p = go (eqb mark 0)
+    once-like mark n b d p = go (isMark mark)
       where
-        go : (t : Bool) → Rel (cond t (own n b) b) (cond t (eigen n d) d)
-        go true = keeps n b d p
-        go false = p
+        go : (t : Bool) → Rel (cond t b (own n b)) (cond t d (eigen n d))
+        go true = p
+        go false = keeps n b d p
 
     alike-below : (k n : ℕ) (b : S) (d : R) (m : List ℕ) (v w : ℕ)
         → ((x : ℕ) (b : S) (d : R) (m : List ℕ) (v w : ℕ) → Rel b d → Like (kept tick get own k x b m v) (kept tock get eigen k x d m w))
@@ -77,10 +76,10 @@ module _ {S : Type 0} where
   counted (like {w} p) e = (w, cc)
 
   -- whatever a walk counts, or nothing: counted one by one, it enters at most one record and each place once for each level
-  pub few-in-all : (tick : ℕ → ℕ) (get : ℕ → Option Parts) (own : ℕ → S → S) (most top : ℕ) → ((n : ℕ) (r : Parts) → get n ≡ some r → n < r .first)
+  pub few-in-all : (tick : ℕ → ℕ) (get : ℕ → Option Parts) (own : ℕ → S → S) (most top blank : ℕ) → most ≤ 16 → isMark blank ≡ false → ((n : ℕ) (r : Parts) → get n ≡ some r → n < r .first)
       → ((n : ℕ) (r : Parts) → get n ≡ some r → n < top) → (k n : ℕ) (b : S) (u : ℕ) {c : ℕ} {e : S} {m : List ℕ} {v : ℕ} → k ≤ most
-      → kept tick get own k n b (replicate top 0) u ≡ left c e m v
-      → (w : ℕ) × (kept (λ x. x + 1) get own k n b (replicate top 0) 0 ≡ left c e m w) × (w ≤ 1 + most * places get top 0)
-  few-in-all tick get own most top up low k n b u deep h =
-      let t = counted (alike (λ x y. x ≡ y) tick (λ x. x + 1) get own own (λ x c d p. ap (own x) p) k n b b (replicate top 0) u 0 refl) h in
-      (t .0, t .1, few-entered get most top own (λ x. x + 1) (λ x. omega arith) up low k n b deep (t .1))
+      → kept tick get own k n b (replicate top blank) u ≡ left c e m v
+      → (w : ℕ) × (kept (λ x. x + 1) get own k n b (replicate top blank) 0 ≡ left c e m w) × (w ≤ 1 + most * places get top 0)
+  few-in-all tick get own most top blank few z up low k n b u deep h =
+      let t = counted (alike (λ x y. x ≡ y) tick (λ x. x + 1) get own own (λ x c d p. ap (own x) p) k n b b (replicate top blank) u 0 refl) h in
+      (t .0, t .1, few-entered get most top own (λ x. x + 1) (λ x. omega arith) up low few blank z k n b deep (t .1))

@@ -11,8 +11,8 @@ use lib.Seq.{getD-set-same}
 use borrow.Author.Tests.{lt-ltb, eq-eqb, ne-eqb, eqb-true, eqb-false}
 use Rattle.tree_walk.specs.declared.Parts.{Parts}
 use Rattle.laws.specs.Every.{never}
-use Rattle.tree_walk.specs.Memory.{Left, left, next, skips, partsKept, foundKept, ownOnce, marking, walked, kept}
-use Rattle.tree_walk.specs.Remembers.{set-mark}
+use Rattle.tree_walk.specs.Memory.{Left, left, next, skips, isMark, partsKept, foundKept, ownOnce, marking, walked, kept}
+use Rattle.tree_walk.specs.Remembers.{set-mark, set-is-mark}
 use Rattle.tree_walk.specs.Counts.{Like, like, alike}
 use Rattle.tree_walk.specs.Marks.{marked}
 
@@ -81,18 +81,18 @@ module _ (top : ℕ) where
   record Looked (n : ℕ) (f f₀ : Looks) (mark : ℕ) : Type 0 where
     there : (x : ℕ) → (x ≡ n → ⊥) → f₀ x ≡ f x
     here : f₀ n ≤ f n + 1
-    not-twice : ltb 0 mark ≡ true → f₀ n ≡ f n
+    not-twice : isMark mark ≡ true → f₀ n ≡ f n
 
   looked : (n : ℕ) (f : Looks) (mark : ℕ) → Looked n f (ownOnce look mark n f) mark
-  looked n f zero = record { there = look-there n f; here = omega (arith, look-here n f); not-twice = λ h. absurd (no h) }
+  looked n f mark = go (isMark mark) refl
     where
-      no : ltb 0 0 ≡ true → ⊥
-      no h = never h
-  looked n f (suc j) = rw (ne-eqb (suc j) 0 (λ e. omega arith)) (record { there = λ x h. refl; here = omega arith; not-twice = λ h. refl })
+      go : (t : Bool) → isMark mark ≡ t → Looked n f (cond t f (look n f)) mark
+      go true e = record { there = λ x h. refl; here = omega arith; not-twice = λ h. refl }
+      go false e = record { there = look-there n f; here = omega (arith, look-here n f); not-twice = λ h. absurd (never (sym e ∙ h)) }
 
-  mark-sees : (n k first : ℕ) (f f₀ : Looks) (m : List ℕ) → n < first → n < top → Looked n f f₀ (getD m n 0) → (l : Left Looks) → Sees first f₀ m l
+  mark-sees : (n k first : ℕ) (f f₀ : Looks) (m : List ℕ) → suc k ≤ 16 → n < first → n < top → Looked n f f₀ (getD m n 0) → (l : Left Looks) → Sees first f₀ m l
       → Sees n f m (next l (marking n (suc k)))
-  mark-sees n k first f f₀ m up low w l p = go l p
+  mark-sees n k first f f₀ m deep up low w l p = go l p
     where
       same : (c : ℕ) (f₁ : Looks) (m₁ : List ℕ) → Seen first f₀ m c f₁ m₁ → (x : ℕ) (t : Bool) → eqb x n ≡ t → f₁ x ≤ f x + 1
       same c f₁ m₁ p x true e = let q : x ≡ n = eqb-true x n e in rw q (omega (arith, p .under n up, w .here))
@@ -123,23 +123,23 @@ module _ (top : ℕ) where
           }
         where
           keeps : (x : ℕ) → marked m₁ x ≡ true → marked (set m₁ n (suc k)) x ≡ true
-          keeps x h = set-mark (λ y u. ltb 0 u ≡ true) m₁ n (suc k) x h (lt-ltb 0 (suc k) (omega arith))
+          keeps x h = set-mark (λ y u. isMark u ≡ true) m₁ n (suc k) x h (set-is-mark k deep)
 
           free : (x : ℕ) (t : Bool) → eqb x n ≡ t → marked (set m₁ n (suc k)) x ≡ false → (s : Bool) → marked m₁ x ≡ s → f₁ x ≡ f x
           free x true e h s d =
               let q : x ≡ n = eqb-true x n e in
               let i : n < length m₁ = omega (arith, p .long) in
-              let y : marked (set m₁ n (suc k)) x ≡ true = rw (q, getD-set-same m₁ n (suc k) 0 i) (lt-ltb 0 (suc k) (omega arith)) in
+              let y : marked (set m₁ n (suc k)) x ≡ true = rw (q, getD-set-same m₁ n (suc k) 0 i) (set-is-mark k deep) in
               absurd (never (sym h ∙ y))
           free x false e h true d = absurd (never (sym h ∙ keeps x d))
           free x false e h false d = p .after refl x d ∙ w .there x (eqb-false x n e)
 
   module _ (tick : ℕ → ℕ) (get : ℕ → Option Parts) (up : (n : ℕ) (r : Parts) → get n ≡ some r → n < r .first) (low : (n : ℕ) (r : Parts) → get n ≡ some r → n < top) where
-    sees-below : (k n : ℕ) (f : Looks) (m : List ℕ) (v : ℕ)
+    sees-below : (k n : ℕ) (f : Looks) (m : List ℕ) (v : ℕ) → suc k ≤ 16
         → ((x : ℕ) (f : Looks) (m : List ℕ) (u : ℕ) → length m ≡ top → Sees x f m (kept tick get look k x f m u))
         → length m ≡ top → Sees n f m (kept tick get look (suc k) n f m v)
     unfolding kept walked
-    sees-below k n f m v ih h = by-mark (skips (getD m n 0) (suc k))
+    sees-below k n f m v deep ih h = by-mark (skips (getD m n 0) (suc k))
       where
         inside : Parts → Left Looks
         inside r = partsKept (kept tick get look k) (r .count) (r .first) (ownOnce look (getD m n 0) n f) m (tick v)
@@ -147,32 +147,33 @@ module _ (top : ℕ) where
         by-record : (o : Option Parts) → get n ≡ o → Sees n f m (foundKept o f m (tick v) (λ r. next (inside r) (marking n (suc k))))
         by-record none e = unseen n 10 f m h
         by-record (some r) e =
-            mark-sees n k (r .first) f (ownOnce look (getD m n 0) n f) m (up n r e) (low n r e) (looked n f (getD m n 0)) (inside r)
+            mark-sees n k (r .first) f (ownOnce look (getD m n 0) n f) m deep (up n r e) (low n r e) (looked n f (getD m n 0)) (inside r)
             (parts-see (kept tick get look k) ih (r .count) (r .first) (ownOnce look (getD m n 0) n f) m (tick v) h)
 
         by-mark : (t : Bool) → Sees n f m (cond t (left 0 f m (tick v)) (foundKept (get n) f m (tick v) (λ r. next (inside r) (marking n (suc k)))))
         by-mark true = unseen n 0 f m h
         by-mark false = by-record (get n) refl
 
-    sees : (k n : ℕ) (f : Looks) (m : List ℕ) (v : ℕ) → length m ≡ top → Sees n f m (kept tick get look k n f m v)
+    sees : (k n : ℕ) (f : Looks) (m : List ℕ) (v : ℕ) → k ≤ 16 → length m ≡ top → Sees n f m (kept tick get look k n f m v)
     unfolding kept
-    sees zero n f m v h = unseen n 13 f m h
-    sees (suc k) n f m v h = sees-below k n f m v (sees k) h
+    sees zero n f m v deep h = unseen n 13 f m h
+    sees (suc k) n f m v deep h = sees-below k n f m v deep (λ x g m′ u. sees k x g m′ u (omega arith)) h
 
     at-most-once : (n : ℕ) (m : List ℕ) (l : Left Looks) → Sees n (λ x. 0) m l → {c : ℕ} {f : Looks} {m′ : List ℕ} {v : ℕ} → l ≡ left c f m′ v → (x : ℕ) → f x ≤ 1
     at-most-once n m (left c₀ f₀ m₀ v₀) p {c} {f} e x = let q : f₀ ≡ f = cc in rw q at (p .once x)
 
     -- whatever comes of the walk, no record's own words are looked at twice
-    pub looked-at-once : (k n u : ℕ) {c : ℕ} {f : Looks} {m : List ℕ} {v : ℕ} → kept tick get look k n (λ x. 0) (replicate top 0) u ≡ left c f m v → (x : ℕ) → f x ≤ 1
-    looked-at-once k n u e x =
-        at-most-once n (replicate top 0) (kept tick get look k n (λ y. 0) (replicate top 0) u) (sees k n (λ y. 0) (replicate top 0) u (length-replicate top 0)) e x
+    pub looked-at-once : (blank k n u : ℕ) {c : ℕ} {f : Looks} {m : List ℕ} {v : ℕ} → k ≤ 16 → kept tick get look k n (λ x. 0) (replicate top blank) u ≡ left c f m v → (x : ℕ) → f x ≤ 1
+    looked-at-once blank k n u deep e x =
+        let first = replicate top blank in
+        at-most-once n first (kept tick get look k n (λ y. 0) first u) (sees k n (λ y. 0) first u deep (length-replicate top blank)) e x
 
     -- so it is for any value: the same walk, with looks for its value, ends with the same number and marks
-    pub looks-once : {S : Type 0} (own : ℕ → S → S) (k n : ℕ) (b : S) (u : ℕ) {c : ℕ} {e : S} {m : List ℕ} {v : ℕ} → kept tick get own k n b (replicate top 0) u ≡ left c e m v
-        → (f : Looks) × (w : ℕ) × (kept tick get look k n (λ x. 0) (replicate top 0) u ≡ left c f m w) × ((x : ℕ) → f x ≤ 1)
-    looks-once own k n b u h =
-        let t = twin (alike (λ x y. Unit) tick tick get own look (λ x d f p. tt) k n b (λ x. 0) (replicate top 0) u u tt) h in
-        (t .0, t .1, t .2, looked-at-once k n u (t .2))
+    pub looks-once : {S : Type 0} (own : ℕ → S → S) (blank k n : ℕ) (b : S) (u : ℕ) {c : ℕ} {e : S} {m : List ℕ} {v : ℕ} → k ≤ 16 → kept tick get own k n b (replicate top blank) u ≡ left c e m v
+        → (f : Looks) × (w : ℕ) × (kept tick get look k n (λ x. 0) (replicate top blank) u ≡ left c f m w) × ((x : ℕ) → f x ≤ 1)
+    looks-once own blank k n b u deep h =
+        let t = twin (alike (λ x y. Unit) tick tick get own look (λ x d f p. tt) k n b (λ x. 0) (replicate top blank) u u tt) h in
+        (t .0, t .1, t .2, looked-at-once blank k n u deep (t .2))
       where
         twin : {S : Type 0} {l : Left S} {l′ : Left Looks} {c : ℕ} {e : S} {m : List ℕ} {v : ℕ} → Like (λ x y. Unit) l l′ → l ≡ left c e m v
             → (f : Looks) × (w : ℕ) × (l′ ≡ left c f m w)

@@ -3,18 +3,19 @@ use mathlib.Core.Path.{_≡_, refl, sym, ap, _∙_}
 use mathlib.Core.Bool.{Bool, true, false, cond, _&&_, _||_}
 use mathlib.Core.List.{List, [], _∷_, _++_}
 use mathlib.Core.Option.{Option, none, some}
-use Prim.Native.Nat.{ℕ, zero, suc, _+_, _<_}
+use Prim.Native.Nat.{ℕ, zero, suc, _+_, _<_, _≤_}
 use native.Mathlib.Omega.{arith}
 use lib.Dec.{leb, ltb, eqb}
 use lib.ListN.{length, getD, set, replicate, length-set, length-replicate}
 use lib.Seq.{getD-set-same}
 use borrow.Author.Tests.{lt-ltb, ltb-true, eq-eqb, ne-eqb, eqb-true, eqb-false}
+use Rattle.laws.specs.Every.{never}
 use Rattle.tree_walk.specs.declared.Parts.{Parts}
 use Rattle.tree_walk.specs.Tree.{Out, refused, went, through}
 use Rattle.tree_walk.specs.Widen.{all, Growing, growing}
 use Rattle.tree_walk.specs.Reached.{reached, joined}
-use Rattle.tree_walk.specs.Memory.{Left, left, next, skips, partsKept, foundKept, ownOnce, marking, walked, kept}
-use Rattle.tree_walk.specs.Remembers.{set-mark, at-first, Agree, agrees, so-went, none-marked}
+use Rattle.tree_walk.specs.Memory.{Left, left, next, skips, isMark, partsKept, foundKept, ownOnce, marking, walked, kept}
+use Rattle.tree_walk.specs.Remembers.{set-mark, at-first, set-is-mark, Agree, agrees, so-went, none-marked}
 
 -- ---- a set of records is a value that is widened
 abbrev pub Set : Type 0
@@ -66,7 +67,7 @@ all-flags (n ∷ ns) s x = all-flags ns (flag n s) x ∙ rw (flag-is n s x) (swa
 
 -- whether a record is marked
 abbrev pub marked : List ℕ → ℕ → Bool
-marked m x = ltb 0 (getD m x 0)
+marked m x = isMark (getD m x 0)
 
 either : {a b : Bool} (C : Type 0) → (a || b) ≡ true → (a ≡ true → C) → (b ≡ true → C) → C
 either {a} {b} C h f g = go a b h f g
@@ -138,44 +139,42 @@ module _ (top : ℕ) where
     here : s₀ n ≡ true
 
   begun : (n : ℕ) (s : Set) (m : List ℕ) → ((x : ℕ) → marked m x ≡ true → s x ≡ true) → Begun n s (ownOnce flag (getD m n 0) n s)
-  begun n s m f = go (getD m n 0) (f n)
+  begun n s m f = by-mark (isMark (getD m n 0)) (f n)
     where
       turn : (a b : Bool) → (a || b) ≡ true → (b || a) ≡ true
       turn true true h = refl
       turn true false h = refl
       turn false b h = rw h
 
-      go : (mark : ℕ) → (ltb 0 mark ≡ true → s n ≡ true) → Begun n s (ownOnce flag mark n s)
-      go zero h =
+      by-mark : (t : Bool) → (t ≡ true → s n ≡ true) → Begun n s (cond t s (flag n s))
+      by-mark false h =
           record {
             more = λ x g. flag-is n s x ∙ or-right (eqb x n) (s x) g;
             only = λ x g. turn (eqb x n) (s x) (sym (flag-is n s x) ∙ g);
             here = flag-is n s n ∙ or-left (eqb n n) (s n) (eq-eqb n n refl);
           }
-      go (suc j) h =
-          rw (ne-eqb (suc j) 0 (λ e. omega arith))
-          (record { more = λ x g. g; only = λ x g. or-left (s x) (eqb x n) g; here = h (lt-ltb 0 (suc j) (omega arith)) })
+      by-mark true h = record { more = λ x g. g; only = λ x g. or-left (s x) (eqb x n) g; here = h refl }
 
   module _ {S : Type 0} where
-    mark-twin : (n k : ℕ) (s s₀ : Set) (m : List ℕ) → n < top → Begun n s s₀ → (l : Left S) (l′ : Left Set) → Twin s₀ m l l′
+    mark-twin : (n k : ℕ) (s s₀ : Set) (m : List ℕ) → suc k ≤ 16 → n < top → Begun n s s₀ → (l : Left S) (l′ : Left Set) → Twin s₀ m l l′
         → Twin s m (next l (marking n (suc k))) (next l′ (marking n (suc k)))
-    mark-twin n k s s₀ m low w l l′ off = off
-    mark-twin n k s s₀ m low w l l′ (on {b} {s′} {m′} {v} p) = on done
+    mark-twin n k s s₀ m deep low w l l′ off = off
+    mark-twin n k s s₀ m deep low w l l′ (on {b} {s′} {m′} {v} p) = on done
       where
         it : (x : ℕ) → eqb x n ≡ true → marked (set m′ n (suc k)) x ≡ true
         it x e =
             let q : x ≡ n = eqb-true x n e in
             let h : n < length m′ = omega (arith, p .long) in
-            rw (q, getD-set-same m′ n (suc k) 0 h) (lt-ltb 0 (suc k) (omega arith))
+            rw (q, getD-set-same m′ n (suc k) 0 h) (set-is-mark k deep)
 
         kept-mark : (x : ℕ) → marked m′ x ≡ true → marked (set m′ n (suc k)) x ≡ true
-        kept-mark x g = set-mark (λ y u. ltb 0 u ≡ true) m′ n (suc k) x g (lt-ltb 0 (suc k) (omega arith))
+        kept-mark x g = set-mark (λ y u. isMark u ≡ true) m′ n (suc k) x g (set-is-mark k deep)
 
         done : Synced s m s′ (set m′ n (suc k))
         done =
             record {
               long = length-set m′ n (suc k) ∙ p .long;
-              flagged = λ x. set-mark (λ y u. ltb 0 u ≡ true → s′ y ≡ true) m′ n (suc k) x (p .flagged x) (λ g. p .grows n (w .here));
+              flagged = λ x. set-mark (λ y u. isMark u ≡ true → s′ y ≡ true) m′ n (suc k) x (p .flagged x) (λ g. p .grows n (w .here));
               new = λ x g. either ((s x || marked (set m′ n (suc k)) x) ≡ true) (p .new x g)
                   (λ a. either ((s x || marked (set m′ n (suc k)) x) ≡ true) (w .only x a) (or-left (s x) (marked (set m′ n (suc k)) x)) (λ e. or-right (s x) (marked (set m′ n (suc k)) x) (it x e)))
                   (λ a. or-right (s x) (marked (set m′ n (suc k)) x) (kept-mark x a));
@@ -184,11 +183,11 @@ module _ (top : ℕ) where
             }
 
     module _ (tick : ℕ → ℕ) (get : ℕ → Option Parts) (own : ℕ → S → S) (low : (n : ℕ) (r : Parts) → get n ≡ some r → n < top) where
-      twins-below : (k n : ℕ) (b : S) (s : Set) (m : List ℕ) (v : ℕ)
+      twins-below : (k n : ℕ) (b : S) (s : Set) (m : List ℕ) (v : ℕ) → suc k ≤ 16
           → ((x : ℕ) (c : S) (s : Set) (m : List ℕ) (u : ℕ) → length m ≡ top → ((y : ℕ) → marked m y ≡ true → s y ≡ true) → Twin s m (kept tick get own k x c m u) (kept tick get flag k x s m u))
           → length m ≡ top → ((y : ℕ) → marked m y ≡ true → s y ≡ true) → Twin s m (kept tick get own (suc k) n b m v) (kept tick get flag (suc k) n s m v)
       unfolding kept walked
-      twins-below k n b s m v ih h f = by-mark (skips (getD m n 0) (suc k))
+      twins-below k n b s m v deep ih h f = by-mark (skips (getD m n 0) (suc k))
         where
           one : Parts → Left S
           one r = partsKept (kept tick get own k) (r .count) (r .first) (ownOnce own (getD m n 0) n b) m (tick v)
@@ -201,7 +200,7 @@ module _ (top : ℕ) where
           by-record none e = off
           by-record (some r) e =
               let w = begun n s m f in
-              mark-twin n k s (ownOnce flag (getD m n 0) n s) m (low n r e) w (one r) (two r)
+              mark-twin n k s (ownOnce flag (getD m n 0) n s) m deep (low n r e) w (one r) (two r)
               (parts-twin (kept tick get own k) (kept tick get flag k) ih (r .count) (r .first) (ownOnce own (getD m n 0) n b) (ownOnce flag (getD m n 0) n s) m (tick v) h (λ y g. w .more y (f y g)))
 
           by-mark : (t : Bool)
@@ -210,39 +209,39 @@ module _ (top : ℕ) where
           by-mark true = on (unmoved s m h f)
           by-mark false = by-record (get n) refl
 
-      twins : (k n : ℕ) (b : S) (s : Set) (m : List ℕ) (v : ℕ) → length m ≡ top → ((y : ℕ) → marked m y ≡ true → s y ≡ true)
+      twins : (k n : ℕ) (b : S) (s : Set) (m : List ℕ) (v : ℕ) → k ≤ 16 → length m ≡ top → ((y : ℕ) → marked m y ≡ true → s y ≡ true)
           → Twin s m (kept tick get own k n b m v) (kept tick get flag k n s m v)
       unfolding kept
-      twins zero n b s m v h f = off
-      twins (suc k) n b s m v h f = twins-below k n b s m v (twins k) h f
+      twins zero n b s m v deep h f = off
+      twins (suc k) n b s m v deep h f = twins-below k n b s m v deep (λ x c t m′ u. twins k x c t m′ u (omega arith)) h f
 
       -- what the set is at the end, by the marks
-      as-marked : (s : Set) (m : List ℕ) → Synced (λ x. false) (replicate top 0) s m → (x : ℕ) → s x ≡ marked m x
-      as-marked s m p x = go (s x) (marked m x) (p .new x) (p .flagged x)
+      as-marked : (first : List ℕ) (s : Set) (m : List ℕ) → Synced (λ x. false) first s m → (x : ℕ) → s x ≡ marked m x
+      as-marked first s m p x = go (s x) (marked m x) (p .new x) (p .flagged x)
         where
           go : (a b : Bool) → (a ≡ true → b ≡ true) → (b ≡ true → a ≡ true) → a ≡ b
           go true b f g = sym (f refl)
           go false true f g = g refl
           go false false f g = refl
 
-      ended : (o : Out Set) (x : ℕ) (ns : List ℕ) {l : Left S} {l′ : Left Set} → Twin (λ x. false) (replicate top 0) l l′ → Agree flags get tick o l′
+      ended : (o : Out Set) (x : ℕ) (ns : List ℕ) {first : List ℕ} {l : Left S} {l′ : Left Set} → Twin (λ x. false) first l l′ → Agree flags get tick o l′
           → ((e : Set) → o ≡ went e → e x ≡ among x ns) → {b : S} {m : List ℕ} {v : ℕ} → l ≡ left 0 b m v → marked m x ≡ among x ns
       ended o x ns (off {c}) a h e = let z : suc c ≡ 0 = cc in absurd (omega arith)
-      ended o x ns (on {s′} {m′} p) a h {m} e =
+      ended o x ns {first} (on {s′} {m′} p) a h {m} e =
           let q : m ≡ m′ = cc in
-          ap (λ (w : List ℕ). marked w x) q ∙ sym (as-marked s′ m′ p x) ∙ h s′ (so-went flags get tick a refl refl)
+          ap (λ (w : List ℕ). marked w x) q ∙ sym (as-marked first s′ m′ p x) ∙ h s′ (so-went flags get tick a refl refl)
 
       -- after a walk that refused nothing, from no mark at all: the marked records are those that the plain walk reached
-      pub marks-are : (k n : ℕ) (b : S) (u : ℕ) {e : S} {m : List ℕ} {v : ℕ} → kept tick get own k n b (replicate top 0) u ≡ left 0 e m v
-          → (x : ℕ) → marked m x ≡ among x (reached get k n)
-      marks-are k n b u h x =
+      pub marks-are : (blank : ℕ) → isMark blank ≡ false → (k n : ℕ) (b : S) (u : ℕ) {e : S} {m : List ℕ} {v : ℕ} → k ≤ 16
+          → kept tick get own k n b (replicate top blank) u ≡ left 0 e m v → (x : ℕ) → marked m x ≡ among x (reached get k n)
+      marks-are blank z k n b u deep h x =
           ended (through get flag k n (λ y. false)) x (reached get k n)
-          (twins k n b (λ y. false) (replicate top 0) u (length-replicate top 0) (λ y g. absurd (no-mark y g)))
-          (agrees flags get tick k n (λ y. false) (replicate top 0) u (none-marked flags get tick top (λ y. false)))
+          (twins k n b (λ y. false) (replicate top blank) u deep (length-replicate top blank) (λ y g. absurd (never (sym (no-mark y) ∙ g))))
+          (agrees flags get tick k n (λ y. false) (replicate top blank) u deep (none-marked flags get tick blank top (λ y. false) z))
           (λ s g. ap (λ (t : Set). t x) (sym (joined get flag k n (λ y. false) s g)) ∙ all-flags (reached get k n) (λ y. false) x ∙ or-false (among x (reached get k n))) h
         where
-          no-mark : (y : ℕ) → marked (replicate top 0) y ≡ true → ⊥
-          no-mark y g = omega (arith, ltb-true 0 (getD (replicate top 0) y 0) g, at-first top y)
+          no-mark : (y : ℕ) → marked (replicate top blank) y ≡ false
+          no-mark y = at-first (λ mark. isMark mark ≡ false) blank top y z refl
 
           or-false : (a : Bool) → (a || false) ≡ a
           or-false true = refl

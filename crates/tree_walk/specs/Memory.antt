@@ -1,10 +1,11 @@
--- The walk with a memory: for each record a mark, 0 at first, then the levels that were left, its own among them, when it was last walked through.
--- A record that was walked through as deep as this, or deeper, is skipped; of one that was walked through at all, what is its own is skipped.
+-- The walk with a memory: for each record a mark, the levels that were left, its own among them, when it was last walked through; at first a number
+-- that is none of 1 to 16. A record that was walked through as deep as this, or deeper, is skipped; of one that was walked through at all, what is
+-- its own is skipped.
 use mathlib.Core.Bool.{Bool, cond, _&&_}
 use mathlib.Core.List.{List}
 use mathlib.Core.Option.{Option, none, some}
 use Prim.Native.Nat.{ℕ, zero, suc, _+_}
-use lib.Dec.{leb, ltb, eqb}
+use lib.Dec.{leb, ltb}
 use lib.ListN.{getD, set}
 use Rattle.tree_walk.specs.declared.Parts.{Parts}
 
@@ -17,8 +18,13 @@ abbrev pub next : {S : Type 0} → Left S → (S → List ℕ → ℕ → Left S
 next (left zero b m v) f = f b m v
 next (left (suc c) b m v) f = left (suc c) b m v
 
+-- whether a record with such a mark was walked through with so many levels left, or fewer
 abbrev pub skips : ℕ → ℕ → Bool
 skips mark levels = ltb 0 mark && leb mark levels
+
+-- whether it was walked through at all
+abbrev pub isMark : ℕ → Bool
+isMark mark = skips mark 16
 
 unfoldable pub partsKept : {S : Type 0} → (ℕ → S → List ℕ → ℕ → Left S) → ℕ → ℕ → S → List ℕ → ℕ → Left S
 partsKept part zero n b m v = left 0 b m v
@@ -29,7 +35,7 @@ foundKept none b m v f = left 10 b m v
 foundKept (some r) b m v f = f r
 
 abbrev pub ownOnce : {S : Type 0} → (ℕ → S → S) → ℕ → ℕ → S → S
-ownOnce own mark n b = cond (eqb mark 0) (own n b) b
+ownOnce own mark n b = cond (isMark mark) b (own n b)
 
 -- behind the parts the mark is set
 abbrev pub marking : {S : Type 0} → ℕ → ℕ → S → List ℕ → ℕ → Left S

@@ -7,14 +7,14 @@ use Prim.Native.Nat.{ℕ, zero, suc, _+_, _≤_, _<_}
 use native.Mathlib.Omega.{arith}
 use lib.Dec.{leb, ltb, eqb}
 use lib.ListN.{getD, set, replicate}
-use borrow.Author.Tests.{ltb-true, leb-true, ne-eqb}
-use Rattle.laws.specs.Every.{both}
+use borrow.Author.Tests.{ltb-true, leb-true, lt-ltb, le-leb}
+use Rattle.laws.specs.Every.{never, both}
 use Rattle.tree_walk.specs.declared.Parts.{Parts}
 use Rattle.tree_walk.specs.Tree.{Out, refused, went, then, found, parts, through}
 use Rattle.tree_walk.specs.Levels.{more-levels}
 use Rattle.tree_walk.specs.Widen.{Growing}
 use Rattle.tree_walk.specs.Again.{passed, own-moves-none}
-use Rattle.tree_walk.specs.Memory.{Left, left, next, skips, partsKept, foundKept, ownOnce, marking, walked, kept}
+use Rattle.tree_walk.specs.Memory.{Left, left, next, skips, isMark, partsKept, foundKept, ownOnce, marking, walked, kept}
 
 -- a mark after one was set is the one set or the one before
 pub set-mark : (P : ℕ → ℕ → Type 0) (m : List ℕ) (n v x : ℕ) → P x (getD m x 0) → P n v → P x (getD (set m n v) x 0)
@@ -24,24 +24,33 @@ set-mark P (y ∷ m) zero v (suc x) p q = p
 set-mark P (y ∷ m) (suc n) v zero p q = p
 set-mark P (y ∷ m) (suc n) v (suc x) p q = set-mark (λ a b. P (suc a) b) m n v x p q
 
-pub at-first : (k n : ℕ) → _≡_ {A = ℕ} (getD (replicate k 0) n 0) 0
-at-first zero n = refl
-at-first (suc k) zero = refl
-at-first (suc k) (suc n) = at-first k n
+-- with the same number for every record, what holds of it and of 0 holds of each mark
+pub at-first : (P : ℕ → Type 0) (blank k n : ℕ) → P blank → P 0 → P (getD (replicate k blank) n 0)
+at-first P blank zero n p q = q
+at-first P blank (suc k) zero p q = p
+at-first P blank (suc k) (suc n) p q = at-first P blank k n p q
+
+-- a mark that is skipped, or that was set, is one
+pub skip-mark : (mark levels : ℕ) → levels ≤ 16 → skips mark levels ≡ true → isMark mark ≡ true
+skip-mark mark levels deep h =
+    let t = both (ltb 0 mark) (leb mark levels) h in
+    let low = ltb-true 0 mark (t .0) in
+    rw (lt-ltb 0 mark low, le-leb mark 16 (omega (arith, leb-true mark levels (t .1))))
+
+pub set-is-mark : (k : ℕ) → suc k ≤ 16 → isMark (suc k) ≡ true
+set-is-mark k deep = rw (lt-ltb 0 (suc k) (omega arith), le-leb (suc k) 16 deep)
 
 module _ {S : Type 0} {own : ℕ → S → S} (G : Growing S own) (get : ℕ → Option Parts) (tick : ℕ → ℕ) where
-  -- from any value above b, record n with so many levels left is refused nothing and moves nothing
+  -- if it is a mark: from any value above b, record n with so many levels left is refused nothing and moves nothing
   abbrev Clear : S → ℕ → ℕ → Type 0
-  Clear b n zero = record {}
-  Clear b n (suc k) = (c : S) → G .Above b c → through get own (suc k) n c ≡ went c
+  Clear b n mark = isMark mark ≡ true → (c : S) → G .Above b c → through get own mark n c ≡ went c
 
   -- every mark says so
   abbrev pub Marked : List ℕ → S → Type 0
   Marked m b = (n : ℕ) → Clear b n (getD m n 0)
 
-  clear-above : (b e : S) (n k : ℕ) → G .Above b e → Clear b n k → Clear e n k
-  clear-above b e n zero a h = h
-  clear-above b e n (suc k) a h = λ c u. h c (G .join a u)
+  clear-above : (b e : S) (n mark : ℕ) → G .Above b e → Clear b n mark → Clear e n mark
+  clear-above b e n mark a h t c u = h t c (G .join a u)
 
   pub marked-above : (m : List ℕ) (b e : S) → G .Above b e → Marked m b → Marked m e
   marked-above m b e a h n = clear-above b e n (getD m n 0) a (h n)
@@ -65,27 +74,31 @@ module _ {S : Type 0} {own : ℕ → S → S} (G : Growing S own) (get : ℕ →
       next-agrees (parts p c (n + 1)) (partsKept q c (n + 1)) (h n b m v k) (λ e m′ u k′. parts-agree p q h c (n + 1) e m′ u k′)
 
   -- a mark is set behind a walk that went through
-  mark-agrees : (n k : ℕ) {o : Out S} {l : Left S} → Agree o l → ((e : S) → o ≡ went e → Clear e n (suc k)) → Agree o (next l (marking n (suc k)))
+  mark-agrees : (n k : ℕ) {o : Out S} {l : Left S} → Agree o l → ((e : S) → o ≡ went e → (c : S) → G .Above e c → through get own (suc k) n c ≡ went c) → Agree o (next l (marking n (suc k)))
   mark-agrees n k refuse h = refuse
   mark-agrees n k (go-on {b} {m} marked) h =
-      go-on (λ x. set-mark (λ y v. Clear b y v) m n (suc k) x (marked x) (h b refl))
+      go-on (λ x. set-mark (λ y v. Clear b y v) m n (suc k) x (marked x) (λ t. h b refl))
 
-  skip-agrees : (k n : ℕ) (b : S) (m : List ℕ) → Marked m b → skips (getD m n 0) (suc k) ≡ true → through get own (suc k) n b ≡ went b
-  skip-agrees k n b m marked h = go (getD m n 0) (marked n) h
+  skip-agrees : (k n : ℕ) (b : S) (m : List ℕ) → suc k ≤ 16 → Marked m b → skips (getD m n 0) (suc k) ≡ true → through get own (suc k) n b ≡ went b
+  skip-agrees k n b m deep marked h = go (getD m n 0) (marked n) h
     where
       go : (mark : ℕ) → Clear b n mark → skips mark (suc k) ≡ true → through get own (suc k) n b ≡ went b
-      go zero c h = absurd (omega (arith, ltb-true 0 0 (both (ltb 0 0) (leb 0 (suc k)) h .0)))
-      go (suc j) c h = more-levels get own (suc j) (suc k) n b b (leb-true (suc j) (suc k) (both (ltb 0 (suc j)) (leb (suc j) (suc k)) h .1)) (c b (G .same b))
+      go mark c h =
+          more-levels get own mark (suc k) n b b (leb-true mark (suc k) (both (ltb 0 mark) (leb mark (suc k)) h .1))
+          (c (skip-mark mark (suc k) deep h) b (G .same b))
 
   own-once : (n : ℕ) (b : S) (mark : ℕ) → Clear b n mark → ownOnce own mark n b ≡ own n b
-  own-once n b zero c = refl
-  own-once n b (suc j) c = rw (ne-eqb (suc j) 0 (λ e. omega arith)) (sym (own-moves-none G get (suc j) n b (c b (G .same b))))
+  own-once n b mark c = go (isMark mark) refl
+    where
+      go : (t : Bool) → isMark mark ≡ t → cond t b (own n b) ≡ own n b
+      go true e = sym (own-moves-none G get mark n b (c e b (G .same b)))
+      go false e = refl
 
-  agrees-below : (k n : ℕ) (b : S) (m : List ℕ) (v : ℕ)
+  agrees-below : (k n : ℕ) (b : S) (m : List ℕ) (v : ℕ) → suc k ≤ 16
       → ((x : ℕ) (c : S) (m : List ℕ) (v : ℕ) → Marked m c → Agree (through get own k x c) (kept tick get own k x c m v))
       → Marked m b → Agree (through get own (suc k) n b) (kept tick get own (suc k) n b m v)
   unfolding through kept walked
-  agrees-below k n b m v ih marked = by-mark (skips (getD m n 0) (suc k)) refl
+  agrees-below k n b m v deep ih marked = by-mark (skips (getD m n 0) (suc k)) refl
     where
       plain : Option Parts → Out S
       plain o = found o (λ r. parts (through get own k) (r .count) (r .first) (own n b))
@@ -104,13 +117,13 @@ module _ {S : Type 0} {own : ℕ → S → S} (G : Growing S own) (get : ℕ →
 
       by-mark : (t : Bool) → skips (getD m n 0) (suc k) ≡ t
           → Agree (plain (get n)) (cond t (left 0 b m (tick v)) (foundKept (get n) b m (tick v) (λ r. next (inside r) (marking n (suc k)))))
-      by-mark true s = subst (λ (o : Out S). Agree o (left 0 b m (tick v))) (sym (skip-agrees k n b m marked s)) (go-on marked)
+      by-mark true s = subst (λ (o : Out S). Agree o (left 0 b m (tick v))) (sym (skip-agrees k n b m deep marked s)) (go-on marked)
       by-mark false s = by-record (get n) refl
 
-  pub agrees : (k n : ℕ) (b : S) (m : List ℕ) (v : ℕ) → Marked m b → Agree (through get own k n b) (kept tick get own k n b m v)
+  pub agrees : (k n : ℕ) (b : S) (m : List ℕ) (v : ℕ) → k ≤ 16 → Marked m b → Agree (through get own k n b) (kept tick get own k n b m v)
   unfolding through kept
-  agrees zero n b m v marked = refuse
-  agrees (suc k) n b m v marked = agrees-below k n b m v (agrees k) marked
+  agrees zero n b m v deep marked = refuse
+  agrees (suc k) n b m v deep marked = agrees-below k n b m v deep (λ x c m′ u. agrees k x c m′ u (omega arith)) marked
 
   -- ---- the plain walk's outcome by what the other left
   pub so-refused : {o : Out S} {l : Left S} {c : ℕ} {b : S} {m : List ℕ} {v : ℕ} → Agree o l → l ≡ left c b m v → (c ≡ 0 → ⊥) → o ≡ refused c
@@ -122,5 +135,5 @@ module _ {S : Type 0} {own : ℕ → S → S} (G : Growing S own) (get : ℕ →
   so-went (go-on k) e z = cc
 
   -- no mark is set at first
-  pub none-marked : (k : ℕ) (b : S) → Marked (replicate k 0) b
-  none-marked k b n = subst (Clear b n) (sym (at-first k n)) (record {})
+  pub none-marked : (blank k : ℕ) (b : S) → isMark blank ≡ false → Marked (replicate k blank) b
+  none-marked blank k b z n = at-first (Clear b n) blank k n (λ t. absurd (never (sym z ∙ t))) (λ t. absurd (never t))

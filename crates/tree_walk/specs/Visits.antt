@@ -11,9 +11,10 @@ use lib.Dec.{leb, ltb, eqb}
 use lib.ListN.{length, getD, set, replicate, length-set, length-replicate}
 use lib.Seq.{getD-set-same, getD-set-other}
 use borrow.Author.Tests.{lt-ltb, leb-false, ltb-true, ltb-false}
+use Rattle.laws.specs.Every.{both, fails}
 use Rattle.tree_walk.specs.declared.Parts.{Parts}
-use Rattle.tree_walk.specs.Memory.{Left, left, next, skips, partsKept, foundKept, ownOnce, marking, walked, kept}
-use Rattle.tree_walk.specs.Remembers.{at-first}
+use Rattle.tree_walk.specs.Memory.{Left, left, next, skips, isMark, partsKept, foundKept, ownOnce, marking, walked, kept}
+use Rattle.tree_walk.specs.Remembers.{at-first, set-is-mark}
 
 -- places in a record's parts list
 abbrev pub placesOf : Option Parts → ℕ
@@ -25,18 +26,27 @@ unfoldable pub places : (ℕ → Option Parts) → ℕ → ℕ → ℕ
 places get zero n = 0
 places get (suc f) n = placesOf (get n) + places get f (n + 1)
 
--- how often a record may still be walked through: at each level above its mark
-abbrev room : ℕ → ℕ → ℕ
-room most zero = most
-room most (suc k) = k
+-- how often a record may still be walked through: with each number of levels left that is below its mark
+unfoldable room : ℕ → ℕ → ℕ
+room most mark = cond (isMark mark) (mark - 1) most
 
 room-left : (most k mark : ℕ) → suc k ≤ most → skips mark (suc k) ≡ false → suc k ≤ room most mark
-room-left most k zero h s = h
-room-left most k (suc j) h s = go (ltb 0 (suc j)) (lt-ltb 0 (suc j) (omega arith)) s
+unfolding room
+room-left most k mark h s = go (isMark mark) refl
   where
-    go : (t : Bool) → t ≡ true → (t && leb (suc j) (suc k)) ≡ false → suc k ≤ j
-    go true e s = omega (arith, leb-false (suc j) (suc k) s)
-    go false e s = let z : _≡_ {A = ℕ} 0 1 = cc in absurd (omega arith)
+    go : (t : Bool) → isMark mark ≡ t → suc k ≤ cond t (mark - 1) most
+    go true e =
+        let low = both (ltb 0 mark) (leb mark 16) e .0 in
+        omega (arith, ltb-true 0 mark low, leb-false mark (suc k) (fails (ltb 0 mark) (leb mark (suc k)) s low))
+    go false e = h
+
+room-set : (most k : ℕ) → suc k ≤ 16 → room most (suc k) ≡ k
+unfolding room
+room-set most k deep = rw (set-is-mark k deep) (omega arith)
+
+room-first : (most blank : ℕ) → isMark blank ≡ false → room most blank ≡ most
+unfolding room
+room-first most blank z = rw z
 
 -- a record is paid for by one time less
 paid : (a k r : ℕ) → suc k ≤ r → a * k + a ≤ a * r
@@ -106,11 +116,11 @@ module _ (get : ℕ → Option Parts) (most top : ℕ) where
     at-record : from n m ≡ r .count * room most (getD m n 0) + from (n + 1) m
     at-record = at-one n m low ∙ ap (λ (o : Option Parts). placesOf o * room most (getD m n 0) + from (n + 1) m) e
 
-    at-set : (k : ℕ) (m₁ : List ℕ) → length m₁ ≡ top → from n (set m₁ n (suc k)) ≡ r .count * k + from (n + 1) m₁
-    at-set k m₁ h =
+    at-set : (k : ℕ) (m₁ : List ℕ) → suc k ≤ 16 → length m₁ ≡ top → from n (set m₁ n (suc k)) ≡ r .count * k + from (n + 1) m₁
+    at-set k m₁ deep h =
         let l : n < length m₁ = omega arith in
         at-one n (set m₁ n (suc k)) low
-        ∙ rw (getD-set-same m₁ n (suc k) 0 l, e, above-set (top - (n + 1)) (n + 1) n (suc k) m₁ (omega arith))
+        ∙ rw (getD-set-same m₁ n (suc k) 0 l, room-set most k deep, e, above-set (top - (n + 1)) (n + 1) n (suc k) m₁ (omega arith))
 
     to-first : n + 1 + (r .first - (n + 1)) ≡ r .first
     to-first = omega arith
@@ -122,17 +132,17 @@ module _ (get : ℕ → Option Parts) (most top : ℕ) where
     beyond = rw to-first at (less (r .first - (n + 1)) (n + 1) m)
 
   -- with no mark set, each place in a parts list may be entered once for each level
-  all-work : (f n k : ℕ) → work f n (replicate k 0) ≡ most * places get f n
+  all-work : (blank : ℕ) → isMark blank ≡ false → (f n k : ℕ) → work f n (replicate k blank) ≡ most * places get f n
   unfolding work places
-  all-work zero n k = sym (mul-zero most)
-  all-work (suc f) n k = rw (at-first k n, all-work f (n + 1) k, mul-add most (placesOf (get n)) (places get f (n + 1)), mul-comm (placesOf (get n)) most)
+  all-work blank z zero n k = sym (mul-zero most)
+  all-work blank z (suc f) n k = rw (at-first (λ mark. room most mark ≡ most) blank k n (room-first most blank z) (room-first most 0 refl), all-work blank z f (n + 1) k, mul-add most (placesOf (get n)) (places get f (n + 1)), mul-comm (placesOf (get n)) most)
 
-  at-first-work : (n k : ℕ) → from n (replicate k 0) ≤ most * places get top 0
-  at-first-work n k =
-      let z : top - 0 ≡ top = omega arith in
+  at-first-work : (blank : ℕ) → isMark blank ≡ false → (n k : ℕ) → from n (replicate k blank) ≤ most * places get top 0
+  at-first-work blank z n k =
+      let all : top - 0 ≡ top = omega arith in
       let a : 0 + n ≡ n = omega arith in
-      let whole : from 0 (replicate k 0) ≡ most * places get top 0 = ap (λ (f : ℕ). work f 0 (replicate k 0)) z ∙ all-work top 0 k in
-      rw whole at (rw a at (less n 0 (replicate k 0)))
+      let whole : from 0 (replicate k blank) ≡ most * places get top 0 = ap (λ (f : ℕ). work f 0 (replicate k blank)) all ∙ all-work blank z top 0 k in
+      rw whole at (rw a at (less n 0 (replicate k blank)))
 
   -- ---- what a walk from record n leaves, where `cost` records were entered from outside
   abbrev still : ℕ → ℕ → List ℕ → ℕ
@@ -177,15 +187,15 @@ module _ (get : ℕ → Option Parts) (most top : ℕ) where
 
     -- a record behind its parts
     module _ (n : ℕ) (m : List ℕ) (r : Parts) (e : get n ≡ some r) (up : n < r .first) (low : n < top) where
-      marked-within : (k v u : ℕ) → suc k ≤ room most (getD m n 0) → u ≤ v + 1
+      marked-within : (k v u : ℕ) → suc k ≤ 16 → suc k ≤ room most (getD m n 0) → u ≤ v + 1
           → (l : Left S) → Within (r .first) u (r .count) m l → Within n v 1 m (next l (marking n (suc k)))
-      marked-within k v u h t (left zero b m₁ v₁) w =
+      marked-within k v u deep h t (left zero b m₁ v₁) w =
           record {
             long = length-set m₁ n (suc k) ∙ w .long;
             same = λ x g. getD-set-other m₁ n x (suc k) 0 (λ q. omega arith) ∙ w .same x (omega arith);
-            few = omega (arith, w .few, at-record n m r e up low, at-set n m r e up low k m₁ (w .long), between n m r e up low m₁ (w .same), paid (r .count) k (room most (getD m n 0)) h);
+            few = omega (arith, w .few, at-record n m r e up low, at-set n m r e up low k m₁ deep (w .long), between n m r e up low m₁ (w .same), paid (r .count) k (room most (getD m n 0)) h);
           }
-      marked-within k v u h t (left (suc z) b m₁ v₁) w =
+      marked-within k v u deep h t (left (suc z) b m₁ v₁) w =
           record {
             long = w .long;
             same = λ x g. w .same x (omega arith);
@@ -193,7 +203,7 @@ module _ (get : ℕ → Option Parts) (most top : ℕ) where
           }
 
     module _ (own : ℕ → S → S) (tick : ℕ → ℕ) (ticks : (v : ℕ) → tick v ≤ v + 1)
-        (up : (n : ℕ) (r : Parts) → get n ≡ some r → n < r .first) (low : (n : ℕ) (r : Parts) → get n ≡ some r → n < top) where
+        (up : (n : ℕ) (r : Parts) → get n ≡ some r → n < r .first) (low : (n : ℕ) (r : Parts) → get n ≡ some r → n < top) (few : most ≤ 16) where
       within-below : (k n : ℕ) (b : S) (m : List ℕ) (v : ℕ) → suc k ≤ most
           → ((x : ℕ) (c : S) (m : List ℕ) (u : ℕ) → length m ≡ top → Within x u 1 m (kept tick get own k x c m u))
           → length m ≡ top → Within n v 1 m (kept tick get own (suc k) n b m v)
@@ -207,7 +217,7 @@ module _ (get : ℕ → Option Parts) (most top : ℕ) where
               → Within n v 1 m (foundKept o b m (tick v) (λ r. next (in-parts r) (marking n (suc k))))
           by-record none e s = record { long = h; same = λ x g. refl; few = omega (arith, ticks v) }
           by-record (some r) e s =
-              marked-within n m r e (up n r e) (low n r e) k v (tick v) (room-left most k (getD m n 0) deep s) (ticks v) (in-parts r)
+              marked-within n m r e (up n r e) (low n r e) k v (tick v) (omega arith) (room-left most k (getD m n 0) deep s) (ticks v) (in-parts r)
               (parts-within (kept tick get own k) ih (r .count) (r .first) (ownOnce own (getD m n 0) n b) m (tick v) h)
 
           by-mark : (t : Bool) → skips (getD m n 0) (suc k) ≡ t
@@ -223,8 +233,8 @@ module _ (get : ℕ → Option Parts) (most top : ℕ) where
       at-most : (n : ℕ) (l : Left S) (c : ℕ) (b : S) (m m′ : List ℕ) (v : ℕ) → Within n 0 1 m l → l ≡ left c b m′ v → v ≤ 1 + from n m
       at-most n (left c₀ b₀ m₀ v₀) c b m m′ v w e = let q : v₀ ≡ v = cc in omega (arith, w .few)
 
-      pub few-entered : (k n : ℕ) (b : S) {c : ℕ} {e : S} {m : List ℕ} {v : ℕ} → k ≤ most
-          → kept tick get own k n b (replicate top 0) 0 ≡ left c e m v → v ≤ 1 + most * places get top 0
-      few-entered k n b {c} {e} {m} {v} deep h =
-          omega
-          (arith, at-most n (kept tick get own k n b (replicate top 0) 0) c e (replicate top 0) m v (within k n b (replicate top 0) 0 deep (length-replicate top 0)) h, at-first-work n top)
+      pub few-entered : (blank : ℕ) → isMark blank ≡ false → (k n : ℕ) (b : S) {c : ℕ} {e : S} {m : List ℕ} {v : ℕ} → k ≤ most
+          → kept tick get own k n b (replicate top blank) 0 ≡ left c e m v → v ≤ 1 + most * places get top 0
+      few-entered blank z k n b {c} {e} {m} {v} deep h =
+          let first = replicate top blank in
+          omega (arith, at-most n (kept tick get own k n b first 0) c e first m v (within k n b first 0 deep (length-replicate top blank)) h, at-first-work blank z n top)

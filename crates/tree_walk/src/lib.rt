@@ -13,8 +13,12 @@ pub struct Parts {
     pub count: u32,
 }
 
-// For each record how many levels were left, its own among them, when it was last walked through; 0 if it never was.
-pub type Marks = [u8; usable::RECORDS];
+// For each record how many levels were left, its own among them, when it was last walked through, or NONE.
+pub type Marks = [u16; usable::RECORDS];
+
+// The mark of a record that was never walked through: more than any has levels left. Its two bytes are not the same, so that
+// an array of them is filled by stores; one of zeros, or of bytes, would be filled by a call of memset, and the library calls nothing.
+pub const NONE: u16 = 17;
 
 // The parts of record n. Without a list there are none.
 pub fn parts_of(s: Span, n: usize) -> Parts
@@ -33,9 +37,9 @@ pub fn parts_of(s: Span, n: usize) -> Parts
     }
 }
 
-// Whether a record with such a mark was walked through as deep as this, or deeper.
-pub fn is_clear(mark: u8, levels: u8) -> bool
+// Whether a record with such a mark was walked through with so many levels left, or fewer.
+pub fn is_clear(mark: u16, levels: u8) -> bool
     ensures { λ r. ⌜ r ≡ skips mark levels ⌝ }
 {
-    (0 < mark) & (mark <= levels)
+    (0 < mark) & (mark <= levels as u16)
 }
