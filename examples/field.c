@@ -88,7 +88,7 @@ static void print_event(bintolage_event_fields e)
 {
     switch (e.kind) {
     case BINTOLAGE_MULTI_POLYGON: printf("field of %u blocks\n", e.size); break;
-    case BINTOLAGE_POLYGON: printf("polygon of %u rings\n", e.size); break;
+    case BINTOLAGE_POLYGON: printf("polygon of %u ring%s\n", e.size, e.size == 1 ? "" : "s"); break;
     case BINTOLAGE_LINE_STRING: printf("  ring %u, %u pairs\n", e.idx, e.size); break;
     case BINTOLAGE_XY: printf("    %.1f %.1f\n", e.x, e.y); break;
     case BINTOLAGE_LINE_STRING + BINTOLAGE_END: printf("  end of ring %u\n", e.idx); break;

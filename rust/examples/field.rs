@@ -46,7 +46,7 @@ fn print_event(e: Event) {
     const MULTI_POLYGON_END: u8 = geometry_type::MULTI_POLYGON + event::END;
     match e.kind {
         geometry_type::MULTI_POLYGON => println!("field of {} blocks", e.size),
-        geometry_type::POLYGON => println!("polygon of {} rings", e.size),
+        geometry_type::POLYGON => println!("polygon of {} ring{}", e.size, if e.size == 1 { "" } else { "s" }),
         geometry_type::LINE_STRING => println!("  ring {}, {} pairs", e.idx, e.size),
         event::XY => println!("    {:.1} {:.1}", f64::from_bits(e.x), f64::from_bits(e.y)),
         RING_END => println!("  end of ring {}", e.idx),
