@@ -1,4 +1,5 @@
-/* A field edge with two keep-out rings, and what the crew has to know: written, read back and printed. */
+/* A field edge with two keep-out rings, and what the crew has to know; then a field in two blocks. Each is written, read back
+ * and printed, with the box around it. */
 #include "bintolage.h"
 
 #include <stdio.h>
@@ -27,6 +28,8 @@ static const char crew[] = "Jensen, Søren";
 static const double edge[][2] = {{0, 0}, {400, 0}, {400, 250}, {0, 250}, {0, 0}};
 static const double main_pipe[][2] = {{50, 40}, {50, 60}, {350, 60}, {350, 40}, {50, 40}};
 static const double well[][2] = {{200, 150}, {210, 160}, {190, 160}, {200, 150}};
+static const double west[][2] = {{450, 20}, {600, 20}, {600, 310}, {450, 20}};
+static const double east[][2] = {{620, -40}, {780, -40}, {780, 200}, {620, -40}};
 
 static void must(const char *call, uint8_t answer)
 {
@@ -59,6 +62,21 @@ static void give_field(void)
     give(bintolage_end(BINTOLAGE_POLYGON, 1, 0));
 }
 
+static void give_block(uint32_t idx, const double pairs[][2], uint32_t count)
+{
+    give(bintolage_begin(BINTOLAGE_POLYGON, 0, 1, idx));
+    give_ring(0, pairs, count);
+    give(bintolage_end(BINTOLAGE_POLYGON, 0, idx));
+}
+
+static void give_blocks(void)
+{
+    give(bintolage_begin(BINTOLAGE_MULTI_POLYGON, 0, 2, 0));
+    give_block(0, west, 4);
+    give_block(1, east, 4);
+    give(bintolage_end(BINTOLAGE_MULTI_POLYGON, 0, 0));
+}
+
 static void give_properties(void)
 {
     must("depth", bintolage_give_number(&state, &memory, 0, columns[0], bintolage_bits_of(1.15)));
@@ -69,19 +87,22 @@ static void give_properties(void)
 static void print_event(bintolage_event_fields e)
 {
     switch (e.kind) {
-    case BINTOLAGE_POLYGON: printf("polygon of %u rings\n", e.size); break;
+    case BINTOLAGE_MULTI_POLYGON: printf("field of %u blocks\n", e.size); break;
+    case BINTOLAGE_POLYGON: printf("polygon of %u ring%s\n", e.size, e.size == 1 ? "" : "s"); break;
     case BINTOLAGE_LINE_STRING: printf("  ring %u, %u pairs\n", e.idx, e.size); break;
     case BINTOLAGE_XY: printf("    %.1f %.1f\n", e.x, e.y); break;
     case BINTOLAGE_LINE_STRING + BINTOLAGE_END: printf("  end of ring %u\n", e.idx); break;
     case BINTOLAGE_POLYGON + BINTOLAGE_END: printf("end of polygon\n"); break;
+    case BINTOLAGE_MULTI_POLYGON + BINTOLAGE_END: printf("end of field\n"); break;
     }
 }
 
-static void print_field(void)
+/* The box of record 0 is around the whole feature, also where all its pairs are in its parts. */
+static void print_feature(void)
 {
     uint32_t count;
     bintolage_edges box;
-    must("read", bintolage_read_feature(&memory, BINTOLAGE_POLYGON, 0, events, 64, &count));
+    must("read", bintolage_read_feature(&memory, BINTOLAGE_UNKNOWN, 0, events, 64, &count));
     for (uint32_t i = 0; i < count; i++) {
         print_event(bintolage_event_of(&events[i]));
     }
@@ -110,12 +131,16 @@ static void print_properties(void)
 
 int main(void)
 {
-    bintolage_start(&state, BINTOLAGE_POLYGON, 0, 0);
+    bintolage_start(&state, BINTOLAGE_UNKNOWN, 0, 0);
     give_field();
     give_properties();
     must("finish", bintolage_finish_feature(&state, &memory));
-    print_field();
+    print_feature();
     print_properties();
+    must("next", bintolage_next_feature(&state, &memory));
+    give_blocks();
+    must("finish", bintolage_finish_feature(&state, &memory));
+    print_feature();
     must("next", bintolage_next_feature(&state, &memory));
     return 0;
 }

@@ -204,6 +204,20 @@ static void check_answers(void)
     check("no more is read than is lent", bintolage_read_values(&state, &nothing, NULL, 0, NULL, 0, &count) == BINTOLAGE_DONE);
 }
 
+static int is_box(bintolage_edges box, double least_x, double least_y, double greatest_x, double greatest_y)
+{
+    return bintolage_bits_of(box.least_x) == bintolage_bits_of(least_x) &&
+           bintolage_bits_of(box.least_y) == bintolage_bits_of(least_y) &&
+           bintolage_bits_of(box.greatest_x) == bintolage_bits_of(greatest_x) &&
+           bintolage_bits_of(box.greatest_y) == bintolage_bits_of(greatest_y);
+}
+
+static int is_beginning(bintolage_edges box)
+{
+    const double minus = unusual_double(3);
+    return is_box(box, -minus, -minus, minus, minus);
+}
+
 /* A collection of one place: a part, a box, and records at odd addresses. */
 static void check_reading(void)
 {
@@ -224,10 +238,44 @@ static void check_reading(void)
     check("a feature read", bintolage_read_feature(&all, BINTOLAGE_GEOMETRY_COLLECTION, 0, log, 5, &count) == BINTOLAGE_DONE);
     check("its events", count == 5);
     check("the events that were given", memcmp(log, given, sizeof given) == 0);
-    check("a box", bintolage_read_box(&all, 1, &box) == BINTOLAGE_DONE);
-    check("least", is_unusual(box.least_y, 1) && bintolage_bits_of(box.least_x) == bintolage_bits_of(-7.5));
-    check("greatest", is_unusual(box.greatest_y, 1) && bintolage_bits_of(box.greatest_x) == bintolage_bits_of(-7.5));
-    check("no such record", bintolage_read_box(&all, 4, &box) == BINTOLAGE_BAD_RECORD && is_unusual(box.greatest_x, 3));
+    check("a part's box", bintolage_read_box(&all, 1, &box) == BINTOLAGE_DONE && is_box(box, -7.5, -0.0, -7.5, -0.0));
+    check("the feature's box", bintolage_read_box(&all, 0, &box) == BINTOLAGE_DONE && is_box(box, -7.5, -0.0, -7.5, -0.0));
+    check("no such record", bintolage_read_box(&all, 4, &box) == BINTOLAGE_BAD_RECORD && is_beginning(box));
+}
+
+/* One level more than there may be. */
+#define LINKS (BINTOLAGE_LEVELS + 1)
+
+/* Records one below the other. Record i has the numbers i and i + 1 for its pair. */
+static void put_chain(uint8_t *records)
+{
+    for (uint32_t i = 0; i < LINKS; i++) {
+        uint8_t *record = records + i * BINTOLAGE_GEOMETRY_BYTES;
+        record[1] = 1 | 64;
+        bintolage_put32(record + 4, i);
+        bintolage_put32(record + 8, 2);
+        bintolage_put32(record + 52, i + 1);
+        bintolage_put32(record + 56, i + 1 < LINKS);
+    }
+    for (int i = 0; i <= LINKS; i++) {
+        xy[i] = bintolage_bits_of(i);
+    }
+}
+
+/* The levels that a box goes down, and the box that comes with a refusal on the way. */
+static void check_boxes(void)
+{
+    uint8_t chain[LINKS * BINTOLAGE_GEOMETRY_BYTES] = {0};
+    bintolage_memory lent = all;
+    bintolage_edges box;
+    lent.table = chain;
+    lent.table_bytes = sizeof chain;
+    put_chain(chain);
+    check("16 levels", bintolage_read_box(&lent, 1, &box) == BINTOLAGE_DONE && is_box(box, 1, 2, 16, 17));
+    check("17 levels", bintolage_read_box(&lent, 0, &box) == BINTOLAGE_TOO_DEEP && is_beginning(box));
+    chain[sizeof chain - 1] = 1;
+    check("a bad part", bintolage_read_box(&lent, 1, &box) == BINTOLAGE_BAD_RECORD && is_beginning(box));
+    check("too deep before bad", bintolage_read_box(&lent, 0, &box) == BINTOLAGE_TOO_DEEP && is_beginning(box));
 }
 
 static const uint8_t widths[] = {1, 1, 1, 2, 2, 4, 4, 8, 8, 4, 8};
@@ -316,6 +364,7 @@ int main(void)
     check_nulls();
     check_answers();
     check_reading();
+    check_boxes();
     check_values();
     check_types();
     check_value_bytes();

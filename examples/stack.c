@@ -1,6 +1,6 @@
 /* How deep the stack of each call goes: each is made on a stack of its own, painted before it; the lowest byte that changed
  * tells. Arguments that go by the stack are counted. Reading is tried with every type at the bottom of 16 levels, with 0, 1
- * and 2 ends. */
+ * and 2 ends; a box with 16 levels and 17, of records that have one part or share several. */
 #define _XOPEN_SOURCE 700
 #include "bintolage.h"
 
@@ -16,7 +16,7 @@ static uint8_t *top;
 static ucontext_t outside, inside;
 
 static bintolage_state state;
-static uint8_t table[BINTOLAGE_LEVELS * BINTOLAGE_GEOMETRY_BYTES];
+static uint8_t table[(BINTOLAGE_LEVELS + 1) * BINTOLAGE_GEOMETRY_BYTES];
 static uint64_t xy[64], z[32], m[32], t[32], tm[32];
 static uint32_t ends[32];
 static uint8_t event[BINTOLAGE_EVENT_BYTES];
@@ -113,6 +113,31 @@ static long deepest_read(int *deepest)
     return most;
 }
 
+/* Records one below the other, each with a pair and with the next records for its parts, `reach` of them or all that follow. */
+static void share(uint32_t levels, uint32_t reach)
+{
+    memset(table, 0, sizeof table);
+    for (uint32_t i = 0; i < levels; i++) {
+        const uint32_t below = levels - i - 1;
+        put_list(table + 64 * i, 0, 0, 2);
+        put_list(table + 64 * i, 6, i + 1, below < reach ? below : reach);
+    }
+}
+
+/* Of one level more than there may be, the deepest is refused. */
+static long deepest_box(void)
+{
+    long most = 0;
+    for (uint32_t levels = BINTOLAGE_LEVELS; levels <= BINTOLAGE_LEVELS + 1; levels++) {
+        for (uint32_t reach = 1; reach < levels; reach++) {
+            share(levels, reach);
+            long d = depth(box);
+            most = d > most ? d : most;
+        }
+    }
+    return most;
+}
+
 /* Every kind of event, taken in a collection, so that an end finishes a part. */
 static long deepest_event(void (*made)(void))
 {
@@ -140,8 +165,8 @@ int main(void)
     printf("%-26s %5ld\n", "property", depth(property));
     printf("%-26s %5ld\n", "read_properties", depth(read_properties));
     printf("%-26s %5ld\n", "finish", depth(finish));
-    printf("%-26s %5ld\n", "box", depth(box));
     printf("%-26s %5ld\n", "next", depth(next));
+    printf("%-26s %5ld\n", "box, of 16 levels", deepest_box());
     printf("%-26s %5ld", "read, of 16 levels", deepest_read(&type));
     printf("  (type %d at the bottom)\n", type);
     return 0;

@@ -96,13 +96,13 @@ extern "C" {
                                          bits beyond the type's width */
 #define BINTOLAGE_NO_ROOM         12  /* event, property, finish, next: no room in a pool, the table or the property
                                          buffer, or one is lent shorter than the state already uses */
-#define BINTOLAGE_TOO_DEEP        13  /* read: a part at level 17, the root being level 1 */
+#define BINTOLAGE_TOO_DEEP        13  /* read, box: a part at level 17, the root or the box's own record being level 1 */
 #define BINTOLAGE_VALUE_CUT       14  /* read_properties: the bytes end within a value */
 #define BINTOLAGE_NOT_ITS_TURN    15  /* event, property, finish: a finished feature waits for next; next: none waits */
 #define BINTOLAGE_COLUMN_TOO_LARGE 16 /* property: a column above 65,535 */
 
 /* Where several refusals are due, the first of these is given: event 11, 15, 5, 12; property 15, 16, 11, 6, 12;
- * finish and next 15, 12; read, on entering a geometry, 13, 10; read_properties, at each property, 2, 14, 6, 9. */
+ * finish and next 15, 12; read and box, on entering a geometry, 13, 10; read_properties, at each property, 2, 14, 6, 9. */
 
 /*
  * USABLE ROOM
@@ -114,7 +114,8 @@ extern "C" {
 #define BINTOLAGE_POOL_WORDS      65536  /* words in each other pool */
 #define BINTOLAGE_LOG_RECORDS   1048576  /* records in a log */
 #define BINTOLAGE_PROPERTY_BYTES  65536  /* bytes in a property buffer */
-#define BINTOLAGE_LEVELS             16  /* levels of geometries within geometries, the root being the first */
+#define BINTOLAGE_LEVELS             16  /* levels of geometries within geometries; the root, or a box's own record, is the
+                                            first */
 
 #define BINTOLAGE_EVENT_BYTES        64
 #define BINTOLAGE_GEOMETRY_BYTES     64
@@ -349,9 +350,16 @@ uint8_t bintolage_read_properties(
     uint32_t *count, uint8_t *stopped);
 
 /*
- * The box around the xy list that record `n` itself has, as the bit patterns of four doubles: the least x and y, and then
- * the greatest. At first the least edges are plus infinity and the greatest minus infinity; a value replaces an edge only
- * where it is strictly beyond it, so a NaN never does. The edges are written refused or not; refused, as at first. Refused: 10.
+ * The box around the geometry of record `n` with all its parts, as the bit patterns of four doubles: the least x and y,
+ * and then the greatest. The box of record 0 is the whole feature's. It is as though all pairs stood in one list: the
+ * record's own, and then those of each part in order, with the parts that it has itself; parts of every type, whether
+ * they would be read or not. An xy list's last word without a partner is left out. At first the least edges are plus
+ * infinity and the greatest minus infinity; a value replaces an edge only where it is strictly beyond it, so a NaN never
+ * does, and of 0.0 and -0.0 the first stays.
+ *
+ * Record `n` is level 1. The first refusal on the way is the answer; the edges, which are written refused or not, are
+ * then as at first. Where records share parts the call still ends soon: it enters at most 16 records for each place in a
+ * list of parts, and looks at a record's pairs once. Refused, on entering a geometry: 13, 10.
  */
 uint8_t bintolage_box(
     const uint8_t *table, size_t table_bytes,
@@ -719,7 +727,10 @@ typedef struct bintolage_edges {
     double least_x, least_y, greatest_x, greatest_y;
 } bintolage_edges;
 
-/* The box around the xy list that record `n` itself has; refused, the box that every box begins with. Refused: 10. */
+/*
+ * The box around the geometry of record `n` with all its parts, which for record 0 is the whole feature's; refused, the box
+ * that every box begins with. Refused: 13, 10.
+ */
 static inline uint8_t bintolage_read_box(const bintolage_memory *memory, uint32_t n, bintolage_edges *edges)
 {
     uint64_t nothing = 0;

@@ -1,6 +1,8 @@
-//! Features as event records (SPEC 3.2), and property values.
+//! Features as event records (SPEC 3.2), property values, and trees whose records share parts.
 use geozero::GeomProcessor;
 use original::events::Log;
+use original::tree::{put_list, Store, MOST_LEVELS};
+use std::ops::Range;
 
 pub const LINE_STRING: u8 = 2;
 pub const MULTI_POLYGON: u8 = 6;
@@ -107,4 +109,59 @@ pub fn ints() -> Values {
 /// Of 58 bytes each.
 pub fn strings() -> Values {
     Values { kind: STRING, bits: 0, text: "drænrør nær grøft, 42 m øst for skel 7, dybde 1,2 m .", count: 1024 }
+}
+
+/// A tree whose records share parts, and how many places its lists of parts have.
+pub struct Shared {
+    pub tree: Store,
+    pub places: usize,
+}
+
+/// Each record has one pair, and these parts.
+fn shared(records: usize, parts_of: impl Fn(usize) -> Range<usize>) -> Shared {
+    const RECORD: usize = 64;
+    const XY: usize = 0;
+    const PARTS: usize = 6;
+    let mut tree = Store { table: vec![0; RECORD * records], ..Store::default() };
+    for (n, record) in tree.table.chunks_exact_mut(RECORD).enumerate() {
+        let (x, y) = place(n);
+        tree.pools[XY].extend([x.to_bits(), y.to_bits()]);
+        put_list(record, XY, 2 * n, 2);
+        put_list(record, PARTS, parts_of(n).start, parts_of(n).len());
+    }
+    Shared { tree, places: (0..records).map(|n| parts_of(n).len()).sum() }
+}
+
+/// Sixteen layers of so many records: the parts of each are the whole next layer.
+pub fn next_layer(width: usize) -> Shared {
+    let records = MOST_LEVELS * width;
+    shared(records, |n| {
+        let next = (n / width + 1) * width;
+        next..records.min(next + width)
+    })
+}
+
+/// The same layers: the parts of each record are all layers below its own.
+pub fn all_layers_below(width: usize) -> Shared {
+    let records = MOST_LEVELS * width;
+    shared(records, |n| (n / width + 1) * width..records)
+}
+
+/// Two layers, the upper of which is come to at level 3, and then one level deeper each time, to level 15. The root's parts are
+/// the ways there: the first leads straight to it, and each further one by one link more.
+pub fn ever_deeper(width: usize) -> Shared {
+    const WAYS: usize = MOST_LEVELS - 3;
+    const LINKS: Range<usize> = WAYS + 1..2 * WAYS;
+    let upper = LINKS.end..LINKS.end + width;
+    let lower = upper.end..upper.end + width;
+    let link = |n: usize| n..n + 1;
+    shared(lower.end, |n| match n {
+        0 => 1..LINKS.start,
+        1 => upper.clone(),
+        n if n < LINKS.start => link(LINKS.end + 1 - n),
+        n if n + 1 < LINKS.end => link(n + 1),
+        n if n < LINKS.end => upper.clone(),
+        n if n < upper.end => lower.clone(),
+        _ => lower.end..lower.end,
+    })
 }

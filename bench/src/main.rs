@@ -1,22 +1,62 @@
 //! The crate's own Rust beside the proved library: the same inputs, one process, the two in turn.
+mod boxes;
 mod inputs;
 mod port;
 mod rows;
 mod timing;
 
+use boxes::BoxTimes;
+use inputs::{all_layers_below, ever_deeper, next_layer, Shared};
 use inputs::{ints, line, line_with_z_and_m, open_rings_end, polygon_and_open_ring, polygons, strings};
+use std::time::Duration;
 use timing::{Rounds, Times};
 
 const MOST_PAIRS: usize = 65536;
 const SIZES: [usize; 5] = [256, 1024, 4096, 16384, MOST_PAIRS];
+/// Polygons, and the pairs of each.
+const FIELDS: [(usize, usize); 3] = [(4000, 16), (4000, 4), (2, 8)];
+const WIDTHS: [usize; 5] = [16, 32, 64, 128, 256];
+/// A name, and the tree of a width.
+type Sharing = (&'static str, fn(usize) -> Shared);
+const SHARINGS: [Sharing; 3] = [
+    ("16 layers, parts the next layer", next_layer),
+    ("16 layers, parts to the table's end", all_layers_below),
+    ("2 layers, met ever deeper", ever_deeper),
+];
+
+fn microseconds(time: Duration) -> f64 {
+    time.as_secs_f64() * 1e6
+}
 
 fn head(title: &str) {
     println!("{title:<46} {:>10} {:>10} {:>7} {:>10} {:>7}", "Rust us", "ours us", "ours/R", "copy us", "ours/c");
 }
 
 fn row(name: &str, times: Times) {
-    let [rust, port, copy] = [times.rust, times.port, times.copy].map(|time| time.as_secs_f64() * 1e6);
+    let [rust, port, copy] = [times.rust, times.port, times.copy].map(microseconds);
     println!("{name:<46} {rust:>10.2} {port:>10.2} {:>7.2} {copy:>10.2} {:>7.2}", port / rust, port / copy);
+}
+
+fn boxes(rounds: Rounds) {
+    println!("{:<46} {:>10} {:>10} {:>10} {:>7} {:>7}", "boxes", "Rust us", "list us", "parts us", "parts/R", "parts/l");
+    for (count, pairs) in FIELDS {
+        let BoxTimes { rust, list, parts } = boxes::of_parts(rounds, &polygons(count, pairs), &line(count * pairs));
+        let [rust, list, parts] = [rust, list, parts].map(microseconds);
+        let name = format!("MultiPolygon, {count} polygons of {pairs} pairs");
+        println!("{name:<46} {rust:>10.2} {list:>10.2} {parts:>10.2} {:>7.2} {:>7.2}", parts / rust, parts / list);
+    }
+}
+
+fn shared_parts(rounds: Rounds) {
+    println!("{:<46} {:>10} {:>10} {:>8}", "boxes where records share parts", "places", "ours us", "ns/place");
+    for (name, tree_of) in SHARINGS {
+        for width in WIDTHS {
+            let shared = tree_of(width);
+            let places = shared.places;
+            let ours = microseconds(boxes::of_shared(rounds, shared));
+            println!("{:<46} {places:>10} {ours:>10.2} {:>8.2}", format!("{name}, {width} wide"), ours * 1e3 / places as f64);
+        }
+    }
 }
 
 fn counted() -> usize {
@@ -59,4 +99,7 @@ fn main() {
         row(&format!("write {name}"), rows::write(rounds, feature));
         row(&format!("read  {name}"), rows::read(rounds, feature));
     }
+
+    boxes(rounds);
+    shared_parts(rounds);
 }

@@ -37,6 +37,15 @@ impl Port {
         Port { state, lists, properties: vec![0; PROPERTY_BYTES] }
     }
 
+    /// With a tree that was not written by it.
+    pub fn holding(tree: Store) -> Port {
+        let mut port = Port::new(0);
+        let [xy, ..] = tree.pools;
+        port.lists.table = tree.table;
+        port.lists.xy = xy;
+        port
+    }
+
     pub fn event(&mut self, event: &[u8]) -> u8 {
         bare::event(&mut self.state, event, &mut self.lists.lend())
     }
@@ -65,6 +74,14 @@ impl Port {
         let number = bare::read(self.lists.lend().tree(), declared, flags, log, &mut count);
         assert_eq!(number, 0, "a tree is read");
         count as usize
+    }
+
+    /// The edges of the box around the whole tree.
+    pub fn edges(&mut self) -> [u64; 4] {
+        let mut edges = [0; 4];
+        let number = bare::bbox(self.lists.lend().tree(), 0, &mut edges);
+        assert_eq!(number, 0, "a tree has a box");
+        edges
     }
 
     /// Whether a tree is what this memory begins with.

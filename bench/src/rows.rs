@@ -39,7 +39,7 @@ fn finish_and_next(port: &mut Port) {
 }
 
 /// The feature as the Rust writes it, and as the library has it before `next`.
-fn written(feature: &Feature) -> (Vec<u8>, Port) {
+pub fn written(feature: &Feature) -> (Vec<u8>, Port) {
     let mut writer = rust_writer(feature.declared);
     give_all(&mut writer, &feature.events);
     let bytes = peek::finish(&mut writer);

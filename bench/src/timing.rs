@@ -1,4 +1,4 @@
-//! Two sides of a row, taken in turn; the least time of each counts.
+//! The sides of a row, taken in turn; the least time of each counts.
 use std::time::{Duration, Instant};
 
 pub fn timed(run: impl FnOnce()) -> Duration {
@@ -20,19 +20,24 @@ pub struct Times {
 }
 
 /// Each side answers how long what it was asked for took. Their buffers are warm: the first rounds are not counted.
+pub fn in_turn<const SIDES: usize>(rounds: Rounds, mut sides: [&mut dyn FnMut() -> Duration; SIDES]) -> [Duration; SIDES] {
+    let mut least = [Duration::MAX; SIDES];
+    for round in 0..rounds.warming + rounds.counted {
+        for (side, least) in sides.iter_mut().zip(&mut least) {
+            let time = side();
+            if round >= rounds.warming {
+                *least = time.min(*least);
+            }
+        }
+    }
+    least
+}
+
+/// The two sides, and a copy of so many bytes.
 pub fn least(rounds: Rounds, bytes: usize, mut rust: impl FnMut() -> Duration, mut port: impl FnMut() -> Duration) -> Times {
     let from = vec![1u8; bytes];
     let mut to = vec![0u8; bytes];
-    let mut times = Times { rust: Duration::MAX, port: Duration::MAX, copy: Duration::MAX };
-    for round in 0..rounds.warming + rounds.counted {
-        let rust = rust();
-        let port = port();
-        let copy = timed(|| std::hint::black_box(&mut to[..]).copy_from_slice(std::hint::black_box(&from)));
-        if round >= rounds.warming {
-            times.rust = times.rust.min(rust);
-            times.port = times.port.min(port);
-            times.copy = times.copy.min(copy);
-        }
-    }
-    times
+    let mut copy = || timed(|| std::hint::black_box(&mut to[..]).copy_from_slice(std::hint::black_box(&from)));
+    let [rust, port, copy] = in_turn(rounds, [&mut rust, &mut port, &mut copy]);
+    Times { rust, port, copy }
 }

@@ -1,4 +1,5 @@
-//! A field edge with two keep-out rings, and what the crew has to know: written, read back and printed.
+//! A field edge with two keep-out rings, and what the crew has to know; then a field in two blocks. Each is written, read back
+//! and printed, with the box around it.
 use bintolage::{column_type, event, geometry_type, usable, Event, Memory, Refusal, Tree, Value, ValueRecord, Writer};
 
 const COLUMNS: [u8; 3] = [column_type::DOUBLE, column_type::USHORT, column_type::STRING];
@@ -7,6 +8,8 @@ const NAMES: [&str; 3] = ["depth", "slope", "crew"];
 const EDGE: [(f64, f64); 5] = [(0.0, 0.0), (400.0, 0.0), (400.0, 250.0), (0.0, 250.0), (0.0, 0.0)];
 const MAIN_PIPE: [(f64, f64); 5] = [(50.0, 40.0), (50.0, 60.0), (350.0, 60.0), (350.0, 40.0), (50.0, 40.0)];
 const WELL: [(f64, f64); 4] = [(200.0, 150.0), (210.0, 160.0), (190.0, 160.0), (200.0, 150.0)];
+const WEST: [(f64, f64); 4] = [(450.0, 20.0), (600.0, 20.0), (600.0, 310.0), (450.0, 20.0)];
+const EAST: [(f64, f64); 4] = [(620.0, -40.0), (780.0, -40.0), (780.0, 200.0), (620.0, -40.0)];
 
 fn write_ring(writer: &mut Writer, idx: u32, pairs: &[(f64, f64)]) -> Result<(), Refusal> {
     writer.event(&Event::begin(geometry_type::LINE_STRING, false, pairs.len() as u32, idx))?;
@@ -24,22 +27,39 @@ fn write_field(writer: &mut Writer) -> Result<(), Refusal> {
     writer.event(&Event::end(geometry_type::POLYGON, true, 0))
 }
 
+fn write_block(writer: &mut Writer, idx: u32, pairs: &[(f64, f64)]) -> Result<(), Refusal> {
+    writer.event(&Event::begin(geometry_type::POLYGON, false, 1, idx))?;
+    write_ring(writer, 0, pairs)?;
+    writer.event(&Event::end(geometry_type::POLYGON, false, idx))
+}
+
+fn write_blocks(writer: &mut Writer) -> Result<(), Refusal> {
+    writer.event(&Event::begin(geometry_type::MULTI_POLYGON, false, 2, 0))?;
+    write_block(writer, 0, &WEST)?;
+    write_block(writer, 1, &EAST)?;
+    writer.event(&Event::end(geometry_type::MULTI_POLYGON, false, 0))
+}
+
 fn print_event(e: Event) {
     const RING_END: u8 = geometry_type::LINE_STRING + event::END;
     const POLYGON_END: u8 = geometry_type::POLYGON + event::END;
+    const MULTI_POLYGON_END: u8 = geometry_type::MULTI_POLYGON + event::END;
     match e.kind {
-        geometry_type::POLYGON => println!("polygon of {} rings", e.size),
+        geometry_type::MULTI_POLYGON => println!("field of {} blocks", e.size),
+        geometry_type::POLYGON => println!("polygon of {} ring{}", e.size, if e.size == 1 { "" } else { "s" }),
         geometry_type::LINE_STRING => println!("  ring {}, {} pairs", e.idx, e.size),
         event::XY => println!("    {:.1} {:.1}", f64::from_bits(e.x), f64::from_bits(e.y)),
         RING_END => println!("  end of ring {}", e.idx),
         POLYGON_END => println!("end of polygon"),
+        MULTI_POLYGON_END => println!("end of field"),
         _ => {}
     }
 }
 
-fn print_field(tree: Tree) -> Result<(), Refusal> {
+/// The box of record 0 is around the whole feature, also where all its pairs are in its parts.
+fn print_feature(tree: Tree) -> Result<(), Refusal> {
     let mut log = [0; 64 * usable::EVENT_BYTES];
-    let read = tree.read(geometry_type::POLYGON, 0, &mut log);
+    let read = tree.read(geometry_type::UNKNOWN, 0, &mut log);
     read.answer?;
     Event::in_log(&log, read.count).for_each(print_event);
     let b = tree.bbox(0);
@@ -68,12 +88,15 @@ fn main() -> Result<(), Refusal> {
     let (mut table, mut xy, mut ends, mut properties) = ([0; 8 * usable::GEOMETRY_BYTES], [0; 128], [0; 64], [0; 256]);
     let memory =
         Memory { table: &mut table, xy: &mut xy, ends: &mut ends, z: &mut [], m: &mut [], t: &mut [], tm: &mut [] };
-    let mut writer = Writer::start(geometry_type::POLYGON, false, false, memory, &mut properties);
+    let mut writer = Writer::start(geometry_type::UNKNOWN, false, false, memory, &mut properties);
     write_field(&mut writer)?;
     writer.property(0, Value::Double(1.15))?;
     writer.property(1, Value::UShort(3))?;
     writer.property(2, Value::String("Jensen, Søren"))?;
-    print_field(writer.finish()?)?;
+    print_feature(writer.finish()?)?;
     print_properties(writer.properties())?;
+    writer.next_feature()?;
+    write_blocks(&mut writer)?;
+    print_feature(writer.finish()?)?;
     writer.next_feature()
 }

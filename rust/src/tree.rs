@@ -26,7 +26,8 @@ impl Tree<'_> {
         Read { answer: Refusal::of(number), count: count as usize }
     }
 
-    /// The box around the xy list that record `n` itself has. Refused: 10.
+    /// The box around the geometry of record `n` with all its parts; that of record 0 is the whole feature's. Its own pairs
+    /// come first, then each part's in order, parts of every type. Record `n` is level 1. Refused: 13, 10.
     pub fn bbox(&self, n: u32) -> Boxed {
         let mut edges = [0; 4];
         let number = bare::bbox(*self, n, &mut edges);

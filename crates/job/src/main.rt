@@ -1,5 +1,4 @@
 // Runs the job of standard input: writes each feature, reads it back, and prints its map, or why there is none.
-use as_words::state::PARTS;
 use as_words::state::STATE_WORDS;
 use job_answers::answered;
 use job_calls::TABLE_BYTES;
@@ -80,7 +79,7 @@ fn run(head: Head, columns: &[u8]) {
             &mut tm,
             &mut log,
         );
-        work = answered(work, state[PARTS], reply, &sent, &log);
+        work = answered(work, reply, &sent, &log);
         turns = left(turns, work);
     }
 }

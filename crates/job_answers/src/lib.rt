@@ -11,7 +11,6 @@ use job_steps::after_event;
 use kinds::answer::Answer;
 use kinds::refusal;
 use record_box::Boxed;
-use report::first_boxed;
 use report::show_box;
 use report::show_geometry;
 
@@ -29,20 +28,16 @@ fn after_finish(work: Work, number: u8) -> Work {
     work.after_finish(number != refusal::DONE)
 }
 
-// A feature without a map has neither its boxes shown nor its properties.
-fn after_reading(work: Work, answer: Answer, parts: u32, sent: &[u8], log: &[u8]) -> Work {
+// A feature without a map has neither its box shown nor its properties.
+fn after_reading(work: Work, answer: Answer, sent: &[u8], log: &[u8]) -> Work {
     if show_geometry(work.feature(), answer, sent, log) {
-        return work.to(Stage::Box(first_boxed(parts)));
+        return work.to(Stage::Box);
     }
     work.to(Stage::Leave)
 }
 
-// The records up to the last part have their boxes shown.
-fn after_box(work: Work, n: usize, boxed: Boxed, parts: u32) -> Work {
-    show_box(n, boxed);
-    if n < parts as usize {
-        return work.to(Stage::Box(n + 1));
-    }
+fn after_box(work: Work, boxed: Boxed) -> Work {
+    show_box(boxed);
     work.to(Stage::Values)
 }
 
@@ -58,14 +53,14 @@ fn answer_of(reply: Reply) -> Answer {
     }
 }
 
-fn after(work: Work, answer: Answer, bbox: Box, parts: u32, sent: &[u8], log: &[u8]) -> Work {
+fn after(work: Work, answer: Answer, bbox: Box, sent: &[u8], log: &[u8]) -> Work {
     let number = answer.number;
     let stage = work.stage;
     match stage {
         Stage::Event => after_event(work, number, sent),
         Stage::Finish => after_finish(work, number),
-        Stage::Back => after_reading(work, answer, parts, sent, log),
-        Stage::Box(n) => after_box(work, n, Boxed { number, bbox }, parts),
+        Stage::Back => after_reading(work, answer, sent, log),
+        Stage::Box => after_box(work, Boxed { number, bbox }),
         Stage::Leave => after_leaving(work, number),
         Stage::Item => work,
         Stage::Property => work,
@@ -74,14 +69,7 @@ fn after(work: Work, answer: Answer, bbox: Box, parts: u32, sent: &[u8], log: &[
     }
 }
 
-// The feature in hand has so many parts.
-pub fn answered(
-    work: Work,
-    parts: u32,
-    reply: Reply,
-    sent: &[u8; SENT_BYTES],
-    log: &[u8; SENT_BYTES],
-) -> Work {
+pub fn answered(work: Work, reply: Reply, sent: &[u8; SENT_BYTES], log: &[u8; SENT_BYTES]) -> Work {
     let bbox = reply.bbox;
-    after(work, answer_of(reply), bbox, parts, sent, log)
+    after(work, answer_of(reply), bbox, sent, log)
 }

@@ -25,7 +25,7 @@ pub const WORDS: usize = 65536;
 fn only_looks(stage: Stage) -> bool {
     match stage {
         Stage::Back => true,
-        Stage::Box(n) => true,
+        Stage::Box => true,
         Stage::Item => false,
         Stage::Property => false,
         Stage::Event => false,

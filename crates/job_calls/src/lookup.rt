@@ -5,7 +5,10 @@ use crate::reply::with_count;
 use job_steps::Stage;
 use kinds::flags::Flags;
 
-// The box of a record, where the stage says of which, or the feature read back to the log.
+// The root is the feature's first record, so its box is around the whole feature.
+const ROOT: usize = 0;
+
+// The feature's box, or the feature read back to the log.
 pub fn look_up(
     stage: Stage,
     declared: u8,
@@ -19,8 +22,8 @@ pub fn look_up(
     tm: &[u64],
     log: &mut [u8],
 ) -> Reply {
-    if let Stage::Box(n) = stage {
-        return with_box(record_box::box_at(table, xy, ends, z, m, t, tm, n));
+    if let Stage::Box = stage {
+        return with_box(record_box::box_at(table, xy, ends, z, m, t, tm, ROOT));
     }
     with_count(reader::read(table, xy, ends, z, m, t, tm, declared, flags, log))
 }

@@ -17,8 +17,8 @@ pub enum Stage {
     Finish,
     // it is read back and compared,
     Back,
-    // the box of one of its records is shown,
-    Box(usize),
+    // its box is shown,
+    Box,
     // its properties are shown,
     Values,
     // and it is left behind.

@@ -1,9 +1,8 @@
-// The boxes of the geometries of a feature.
+// The box of a feature.
 use bbox::Box;
 use bbox::edge_bits;
 use console::end_line;
 use console::say;
-use console::say_count;
 use console::say_double;
 use console::say_refusal;
 use kinds::refusal;
@@ -37,16 +36,8 @@ fn say_boxed(boxed: Boxed) {
     say_box(around);
 }
 
-// The box of record n.
-pub fn show_box(n: usize, boxed: Boxed) {
-    say(b"  box of record ");
-    say_count(n);
-    say(b": ");
+pub fn show_box(boxed: Boxed) {
+    say(b"  box: ");
     say_boxed(boxed);
     end_line();
-}
-
-// The first record whose box is shown: the root's, or where it has parts, that of the first of them.
-pub fn first_boxed(parts: u32) -> usize {
-    if parts == 0 { 0 } else { 1 }
 }

@@ -6,7 +6,6 @@ mod row;
 mod values;
 mod verdict;
 
-pub use boxes::first_boxed;
 pub use boxes::show_box;
 pub use feature::Feature;
 pub use feature::Properties;
