@@ -112,4 +112,4 @@ pub +enter+walk-spec : {M : Type 1} → statement M
     (λ c. (search needs, went-on _ _ _ _ _ _ _ _ (c .before .before .before .before .before .before .loop .inv .1) (c .before .before .before .before .before .loop-test .taken) (c .before .before .before .enter .ensures) (c .before .if1 .left)))
     (λ c. search needs)
     (λ c. search needs)
-    (λ c. let a = c .before .before .before .before .before .before .before .before .before .before .before .args in good-walked (a .table .now) (a .lent) (a .xy .now) _ (a .levels) (a .n) (a .around) (a .marks .now) (c .before .before .before .before .before .before .before .before .record-at .ensures) (c .before .before .before .before .before .before .g .given .1) (c .before .before .before .before .parts-of .ensures) (c .before .before .own-once .ensures) ∙ came-through _ _ _ _ _ _ _ _ (c .before .loop .inv .1) (c .loop-test .left))
+    (λ c. let a = c .before .before .before .before .before .before .before .before .before .before .before .args in good-walked (a .table .now) (a .lent) (a .xy .now) _ (a .levels) (a .n) (a .around) (a .marks .now) (c .before .before .before .before .before .before .before .before .record-at .ensures) (c .before .before .before .before .before .before .g .given .1) (c .before .before .before .before .parts-of .ensures) (c .before .before .own-once .ensures) ∙ came-through _ _ _ _ _ _ _ _ (c .before .loop .inv .1) (omega (arith, c .loop-test .left)))

@@ -1,9 +1,10 @@
-use mathlib.Core.Path.{_≡_, sym, ap, _∙_}
+use mathlib.Core.Path.{_≡_, refl, sym, ap, _∙_}
 use Prim.Native.Nat.{ℕ, _+_, _-_}
 use native.Mathlib.Omega.{arith}
 use lib.ListN.{take, drop}
 use denote.Ref.{now}
 use borrow.Author.Needs.{needs}
+use Rattle.laws.specs.Cond.{if-so}
 use Rattle.bbox.specs.Box.{boxFrom}
 use Rattle.record_box.proofs.own_once.Statement.{statement}
 use Rattle.record_box.proofs.own_once.Tie as tie
@@ -13,7 +14,7 @@ own-once-spec =
     tie.close
     (tie.spec
     (λ c κs. search needs)
-    (λ c. rw (sym (c .before .is-clear .ensures) ∙ c .if1 .taken))
+    (λ c. if-so _ (sym (c .before .is-clear .ensures) ∙ c .if1 .taken) refl)
     (λ c. search needs)
     (λ c. search needs)
     (λ c. search needs)
