@@ -358,8 +358,8 @@ uint8_t bintolage_read_properties(
  * does, and of 0.0 and -0.0 the first stays.
  *
  * Record `n` is level 1. The first refusal on the way is the answer; the edges, which are written refused or not, are
- * then as at first. Where records share parts the call still ends soon: it enters at most 16 records for each place in a
- * list of parts, and looks at a record's pairs once. Refused, on entering a geometry: 13, 10.
+ * then as at first. Where records share parts the call still ends soon: it enters at most one record, and 16 for each place
+ * in a list of parts, and looks at no record's pairs twice. Refused, on entering a geometry: 13, 10.
  */
 uint8_t bintolage_box(
     const uint8_t *table, size_t table_bytes,

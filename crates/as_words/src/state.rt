@@ -17,7 +17,7 @@ pub const STATE_WORDS: usize = 16;
 pub type StateWords = [u32; STATE_WORDS];
 
 // Where a state counts the parts of the feature in hand, and the property bytes.
-pub const PARTS: usize = 1;
+const PARTS: usize = 1;
 
 pub const PROPERTIES: usize = 2;
 
