@@ -1,4 +1,5 @@
 //! The proved library and the crate's own Rust, given the same: every number, count, state, record, word and byte is compared.
+mod boxes;
 mod input;
 mod make;
 mod port;

@@ -1,4 +1,5 @@
 //! What a run has compared: how many of each sort, and what they covered.
+use original::answer::{BAD_RECORD, DONE, TOO_DEEP};
 use std::collections::{BTreeMap, BTreeSet};
 use std::fmt;
 
@@ -27,6 +28,7 @@ pub struct Tally {
     types_read: BTreeSet<u8>,
 }
 
+const BOX_NUMBERS: [u8; 3] = [DONE, BAD_RECORD, TOO_DEEP];
 const MODES: [&str; 3] = ["Normal", "GeometryCollection", "ForceMulti"];
 
 impl Tally {
@@ -50,7 +52,7 @@ impl Tally {
         self.types_read.insert(kind);
     }
 
-    /// SPEC's refusals, types and changes of mode that no input came to.
+    /// SPEC's refusals, types and changes of mode that no input came to, and the answers that a box must have had.
     pub fn missing(&self) -> Vec<String> {
         let mut missing = vec![];
         let answered = |number| self.numbers.keys().any(|(_, given)| *given == number);
@@ -60,6 +62,8 @@ impl Tally {
         missing.extend((0..=255u8).filter(|kind| !self.types_read.contains(kind)).map(|kind| format!("type {kind} read")));
         let changes = [(0, 1), (0, 2), (1, 0), (1, 2), (2, 0), (2, 1)];
         missing.extend(changes.iter().filter(|change| !self.modes.contains_key(change)).map(|change| format!("mode {change:?}")));
+        let boxed = |number: &u8| self.numbers.contains_key(&(Asked::Box, *number));
+        missing.extend(BOX_NUMBERS.iter().filter(|number| !boxed(number)).map(|number| format!("number {number} of a box")));
         missing
     }
 }
