@@ -117,6 +117,8 @@ fn main() -> ExitCode {
     make::odd::each(&mut |input| run.compare(&input));
     make::limits::each(&mut |input| run.compare(&input));
     println!("at the limits: done after {:.0?}", began.elapsed());
+    make::shared::each(&mut |input| run.compare(&input));
+    println!("shared parts: {} boxes after {:.0?}", run.tally.boxes, began.elapsed());
     match make::files::each(&options.files, &mut |input| run.compare(&input)) {
         Ok(features) => println!("GDAL's files: {features} features, done after {:.0?}", began.elapsed()),
         Err(words) => println!("GDAL's files: {words}"),

@@ -1,11 +1,12 @@
-//! Random trees, good and damaged.
+//! Random trees, good, with shared parts, and damaged.
 use super::pick::Pick;
 use super::records::{laid, Node};
 use crate::input::Tree;
-use original::tree::Store;
+use original::tree::{put_list, Store};
 
 const PARENTS: [u8; 7] = [6, 7, 9, 10, 11, 12, 15];
 const COLLECTION: u8 = 7;
+const MOST_SHARED: usize = 3;
 const ALL: [u8; 15] = super::records::TYPES;
 
 /// Of a type that has parts: those that the crate reads in it.
@@ -30,6 +31,9 @@ pub fn tree(pick: &mut Pick) -> Tree {
     let root = node(pick, kind, levels);
     let gaps = pick.one_in(4);
     let mut store = laid(root, || if gaps { pick.below(3) } else { 0 });
+    if pick.one_in(3) {
+        share(pick, &mut store);
+    }
     if pick.one_in(4) {
         damage(pick, &mut store);
     }
@@ -96,6 +100,18 @@ fn ends(pick: &mut Pick, pairs: usize) -> Option<Vec<u64>> {
         _ => ends.sort_unstable(),
     }
     Some(ends)
+}
+
+/// Some records get other parts, a few of the records behind them, which may be parts already: they are then shared, and come to at
+/// several levels. What no longer is a part of any stays in the table.
+fn share(pick: &mut Pick, store: &mut Store) {
+    let records = store.records();
+    for _ in 0..1 + pick.below(records) {
+        let n = pick.below(records);
+        let start = n + 1 + pick.below(records - n);
+        let count = pick.below(MOST_SHARED.min(records - start) + 1);
+        put_list(&mut store.table[64 * n..64 * n + 64], 6, start, count);
+    }
 }
 
 /// Bytes of the table changed, words moved, pools shorter or longer, the table cut or with more after it.
