@@ -1,6 +1,7 @@
 //! The proved library and the crate's own Rust, given the same: every number, count, state, record, word and byte is compared.
 mod boxes;
 mod input;
+mod kept_box;
 mod make;
 mod port;
 mod readings;
@@ -8,7 +9,7 @@ mod rows;
 mod runs;
 mod tally;
 
-use input::{from_line, to_line, Input, Tree};
+use input::{from_line, to_line, Input, Row, Tree};
 use make::pick::Pick;
 use std::path::{Path, PathBuf};
 use std::process::ExitCode;
@@ -52,19 +53,24 @@ struct Run {
 impl Run {
     fn compare(&mut self, input: &Input) {
         let difference = match input {
-            Input::Row(row) => rows::compare(row, &mut self.tally).and_then(|trees| {
-                runs::compare(row, &mut self.tally)?;
-                let declared = row.declared;
-                let mut read =
-                    |(i, store)| readings::compare_tree(&Tree { store, declared, flags: 0, cut: i as u32 }, &mut self.tally);
-                trees.into_iter().enumerate().try_for_each(&mut read)
-            }),
+            Input::Row(row) => self.compare_row(row),
             Input::Tree(tree) => readings::compare_tree(tree, &mut self.tally),
             Input::Properties(list) => readings::compare_properties(list, &mut self.tally),
         };
         if let Err(words) = difference {
             self.differ(input, &words);
         }
+    }
+
+    fn compare_row(&mut self, row: &Row) -> Result<(), String> {
+        let finished = rows::compare(row, &mut self.tally)?;
+        runs::compare(row, &mut self.tally)?;
+        for (i, feature) in finished.into_iter().enumerate() {
+            readings::compare_kept_box(&feature, &mut self.tally)?;
+            let tree = Tree { store: feature.tree, declared: row.declared, flags: 0, cut: i as u32 };
+            readings::compare_tree(&tree, &mut self.tally)?;
+        }
+        Ok(())
     }
 
     fn differ(&mut self, input: &Input, words: &str) {

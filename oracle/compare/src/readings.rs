@@ -3,8 +3,9 @@
 use crate::boxes::Boxes;
 use crate::input::{Properties, Tree};
 use crate::port::{self, Memory};
+use crate::rows::Finished;
 use crate::tally::{Asked, Tally};
-use original::answer::LOG_FULL;
+use original::answer::{DONE, LOG_FULL};
 use original::reading;
 
 const UNTOUCHED: u8 = 0xA5;
@@ -71,6 +72,17 @@ fn compare_boxes(tree: &Tree, memory: &Memory, tally: &mut Tally) -> Result<(), 
         tally.answered(Asked::Box, expected.0);
         tally.boxes += 1;
     }
+    Ok(())
+}
+
+/// The root's box beside the one that the Rust's writer kept, where it must be the same.
+pub fn compare_kept_box(finished: &Finished, tally: &mut Tally) -> Result<(), String> {
+    let Some(kept) = finished.kept_box else { return Ok(()) };
+    let answered = port::edges(&Memory::of(&finished.tree), 0);
+    if answered != (DONE, kept) {
+        return Err(format!("the box of a finished feature is {answered:x?}, and the Rust keeps {kept:x?}"));
+    }
+    tally.kept_box(finished.tree.records() > 1);
     Ok(())
 }
 

@@ -22,6 +22,8 @@ pub struct Tally {
     pub lists: u64,
     pub boxes: u64,
     pub calls: u64,
+    kept_boxes: u64,
+    kept_boxes_over_parts: u64,
     numbers: BTreeMap<(Asked, u8), u64>,
     modes: BTreeMap<(u8, u8), u64>,
     types_written: BTreeSet<u8>,
@@ -52,7 +54,14 @@ impl Tally {
         self.types_read.insert(kind);
     }
 
-    /// SPEC's refusals, types and changes of mode that no input came to, and the answers that a box must have had.
+    /// A finished feature's box beside the one that the Rust's writer kept.
+    pub fn kept_box(&mut self, has_parts: bool) {
+        self.kept_boxes += 1;
+        self.kept_boxes_over_parts += u64::from(has_parts);
+    }
+
+    /// SPEC's refusals, types and changes of mode that no input came to, the answers that a box must have had, and boxes that were to
+    /// be held to another's.
     pub fn missing(&self) -> Vec<String> {
         let mut missing = vec![];
         let answered = |number| self.numbers.keys().any(|(_, given)| *given == number);
@@ -64,6 +73,8 @@ impl Tally {
         missing.extend(changes.iter().filter(|change| !self.modes.contains_key(change)).map(|change| format!("mode {change:?}")));
         let boxed = |number: &u8| self.numbers.contains_key(&(Asked::Box, *number));
         missing.extend(BOX_NUMBERS.iter().filter(|number| !boxed(number)).map(|number| format!("number {number} of a box")));
+        let others = [("box over parts that the Rust kept", self.kept_boxes_over_parts)];
+        missing.extend(others.iter().filter(|(_, compared)| *compared == 0).map(|(what, _)| what.to_string()));
         missing
     }
 }
@@ -72,6 +83,8 @@ impl fmt::Display for Tally {
     fn fmt(&self, to: &mut fmt::Formatter) -> fmt::Result {
         writeln!(to, "rows {}, reads {}, property lists {}, together {}", self.rows, self.reads, self.lists, self.compared())?;
         writeln!(to, "calls in rows {}, boxes {}", self.calls, self.boxes)?;
+        let (kept, over_parts) = (self.kept_boxes, self.kept_boxes_over_parts);
+        writeln!(to, "boxes that the Rust kept {kept}, of them over parts {over_parts}")?;
         let mut last = None;
         for ((asked, number), count) in &self.numbers {
             if last != Some(asked) {
