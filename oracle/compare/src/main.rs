@@ -1,5 +1,6 @@
 //! The proved library and the crate's own Rust, given the same: every number, count, state, record, word and byte is compared.
 mod boxes;
+mod extents;
 mod input;
 mod kept_box;
 mod make;
@@ -10,6 +11,7 @@ mod runs;
 mod tally;
 
 use input::{from_line, to_line, Input, Row, Tree};
+use make::files::Feature;
 use make::pick::Pick;
 use std::path::{Path, PathBuf};
 use std::process::ExitCode;
@@ -87,6 +89,13 @@ impl Run {
         std::fs::write(&path, line + "\n").expect("the folder of kept inputs can be written");
     }
 
+    fn compare_extents(&mut self, folder: &Path, features: &[Feature]) {
+        if let Err(words) = extents::compare(folder, features, &mut self.tally) {
+            self.differences += 1;
+            println!("DIFFERENCE: {words}");
+        }
+    }
+
     fn replay(&mut self, folder: &Path) -> usize {
         let mut replayed = 0;
         for entry in std::fs::read_dir(folder).into_iter().flatten().flatten() {
@@ -125,8 +134,12 @@ fn main() -> ExitCode {
     println!("at the limits: done after {:.0?}", began.elapsed());
     make::shared::each(&mut |input| run.compare(&input));
     println!("shared parts: {} boxes after {:.0?}", run.tally.boxes, began.elapsed());
-    match make::files::each(&options.files, &mut |input| run.compare(&input)) {
-        Ok(features) => println!("GDAL's files: {features} features, done after {:.0?}", began.elapsed()),
+    match make::files::features(&options.files) {
+        Ok(features) => {
+            features.iter().for_each(|feature| feature.each(&mut |input| run.compare(&input)));
+            run.compare_extents(&options.files, &features);
+            println!("GDAL's files: {} features, done after {:.0?}", features.len(), began.elapsed());
+        }
         Err(words) => println!("GDAL's files: {words}"),
     }
     make::exhaustive::each(&mut |input| run.compare(&input));

@@ -21,6 +21,7 @@ pub struct Tally {
     pub reads: u64,
     pub lists: u64,
     pub boxes: u64,
+    pub extents: u64,
     pub calls: u64,
     kept_boxes: u64,
     kept_boxes_over_parts: u64,
@@ -73,7 +74,7 @@ impl Tally {
         missing.extend(changes.iter().filter(|change| !self.modes.contains_key(change)).map(|change| format!("mode {change:?}")));
         let boxed = |number: &u8| self.numbers.contains_key(&(Asked::Box, *number));
         missing.extend(BOX_NUMBERS.iter().filter(|number| !boxed(number)).map(|number| format!("number {number} of a box")));
-        let others = [("box over parts that the Rust kept", self.kept_boxes_over_parts)];
+        let others = [("box over parts that the Rust kept", self.kept_boxes_over_parts), ("extent of GDAL's", self.extents)];
         missing.extend(others.iter().filter(|(_, compared)| *compared == 0).map(|(what, _)| what.to_string()));
         missing
     }
@@ -84,7 +85,7 @@ impl fmt::Display for Tally {
         writeln!(to, "rows {}, reads {}, property lists {}, together {}", self.rows, self.reads, self.lists, self.compared())?;
         writeln!(to, "calls in rows {}, boxes {}", self.calls, self.boxes)?;
         let (kept, over_parts) = (self.kept_boxes, self.kept_boxes_over_parts);
-        writeln!(to, "boxes that the Rust kept {kept}, of them over parts {over_parts}")?;
+        writeln!(to, "boxes that the Rust kept {kept}, of them over parts {over_parts}; GDAL's extents {}", self.extents)?;
         let mut last = None;
         for ((asked, number), count) in &self.numbers {
             if last != Some(asked) {
