@@ -6,7 +6,7 @@ use original::tree::{put_list, Store};
 
 const PARENTS: [u8; 7] = [6, 7, 9, 10, 11, 12, 15];
 const COLLECTION: u8 = 7;
-const MOST_SHARED: usize = 3;
+const MOST_LINKED: usize = 3;
 const ALL: [u8; 15] = super::records::TYPES;
 
 /// Of a type that has parts: those that the crate reads in it.
@@ -21,6 +21,23 @@ fn usual_parts(kind: u8) -> &'static [u8] {
 }
 
 pub fn tree(pick: &mut Pick) -> Tree {
+    let mut store = if pick.one_in(50) { linked(pick) } else { nested(pick) };
+    let kind = store.table[0];
+    if pick.one_in(4) {
+        damage(pick, &mut store);
+    }
+    let declared = match pick.below(8) {
+        0 => pick.byte() % 19,
+        1 => pick.of(&ALL),
+        2 | 3 => 0,
+        _ => kind,
+    };
+    let flags = if pick.one_in(2) { 0 } else { pick.byte() % 16 };
+    Tree { store, declared, flags, cut: pick.word() as u32 }
+}
+
+/// A tree whose records have one holder each; in one of three, some then have several.
+fn nested(pick: &mut Pick) -> Store {
     let deep = pick.one_in(100);
     let kind = match pick.below(30) {
         _ if deep => COLLECTION,
@@ -34,17 +51,38 @@ pub fn tree(pick: &mut Pick) -> Tree {
     if pick.one_in(3) {
         share(pick, &mut store);
     }
-    if pick.one_in(4) {
-        damage(pick, &mut store);
+    store
+}
+
+fn share(pick: &mut Pick, store: &mut Store) {
+    let records = store.records();
+    for _ in 0..1 + pick.below(records) {
+        let n = pick.below(records);
+        link(pick, store, n, records);
     }
-    let declared = match pick.below(8) {
-        0 => pick.byte() % 19,
-        1 => pick.of(&ALL),
-        2 | 3 => 0,
-        _ => kind,
-    };
-    let flags = if pick.one_in(2) { 0 } else { pick.byte() % 16 };
-    Tree { store, declared, flags, cut: pick.word() as u32 }
+}
+
+/// Records enough to pass level 16, of any types, each of which has some of the next ones for its parts: most have several holders, at
+/// several levels.
+fn linked(pick: &mut Pick) -> Store {
+    let parts = (0..16 + pick.below(16)).map(|_| leaf(pick)).collect();
+    let mut store = laid(Node { parts: Some(parts), ..leaf(pick) }, || 0);
+    (0..store.records()).for_each(|n| link(pick, &mut store, n, 1));
+    store
+}
+
+fn leaf(pick: &mut Pick) -> Node {
+    let mut leaf = Node { kind: pick.of(&ALL), ..Default::default() };
+    own_lists(pick, &mut leaf);
+    leaf
+}
+
+/// Gives a record other parts, a few that begin at one of so many behind it. They may be parts already, and are then shared.
+fn link(pick: &mut Pick, store: &mut Store, n: usize, farthest: usize) {
+    let records = store.records();
+    let start = n + 1 + pick.below(farthest.min(records - n));
+    let count = pick.below(MOST_LINKED.min(records - start) + 1);
+    put_list(&mut store.table[64 * n..64 * n + 64], 6, start, count);
 }
 
 fn node(pick: &mut Pick, kind: u8, levels: usize) -> Node {
@@ -100,18 +138,6 @@ fn ends(pick: &mut Pick, pairs: usize) -> Option<Vec<u64>> {
         _ => ends.sort_unstable(),
     }
     Some(ends)
-}
-
-/// Some records get other parts, a few of the records behind them, which may be parts already: they are then shared, and come to at
-/// several levels. What no longer is a part of any stays in the table.
-fn share(pick: &mut Pick, store: &mut Store) {
-    let records = store.records();
-    for _ in 0..1 + pick.below(records) {
-        let n = pick.below(records);
-        let start = n + 1 + pick.below(records - n);
-        let count = pick.below(MOST_SHARED.min(records - start) + 1);
-        put_list(&mut store.table[64 * n..64 * n + 64], 6, start, count);
-    }
 }
 
 /// Bytes of the table changed, words moved, pools shorter or longer, the table cut or with more after it.
