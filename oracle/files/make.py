@@ -1,14 +1,22 @@
 #!/usr/bin/env python3
-"""The FlatGeobuf files beside this script, made by GDAL: every geometry type, with and without z and m, declared and not.
+"""The FlatGeobuf files beside this script, made by GDAL: every geometry type, with and without z and m, declared and not; and
+extents.txt, GDAL's own extent of each of their features.
 
     oracle/files/make.py        # needs Debian's python3-gdal
 """
-import os
+import glob, os
 
-from osgeo import ogr, osr
+from osgeo import gdal, ogr, osr
 
 ogr.UseExceptions()
 HERE = os.path.dirname(os.path.abspath(__file__))
+VERSION = gdal.VersionInfo("RELEASE_NAME")
+EXTENTS_HEAD = f"""\
+# GDAL's own extent of each feature of the files beside this, written by make.py: what GetEnvelope of GDAL {VERSION} gives for
+# the geometry that GDAL reads from the file. A line is the file, the feature's number from 0, then least x, least y, greatest x,
+# greatest y, in decimals that give back the doubles. Types with arcs are left out: GDAL goes round an arc, a box over the pairs
+# that are stored. An empty geometry has no extent: the files have none, and make.py stops at one.
+"""
 TEXTS = {
     "Point": ["POINT (1 2)", "POINT (-3.5 4.25)"],
     "LineString": ["LINESTRING (0 0,1 1,2 0.5)", "LINESTRING (5 5,6 6)"],
@@ -70,6 +78,24 @@ def make(path, kind, geometries):
         layer.CreateFeature(feature)
 
 
+def extents(path):
+    """A line for each feature of a file that has no arcs."""
+    source = ogr.Open(path)
+    for number, feature in enumerate(source.GetLayer(0)):
+        geometry = feature.GetGeometryRef()
+        assert not geometry.IsEmpty(), path
+        if not geometry.HasCurveGeometry():
+            least_x, greatest_x, least_y, greatest_y = geometry.GetEnvelope()
+            yield " ".join(map(str, (os.path.basename(path), number, least_x, least_y, greatest_x, greatest_y))) + "\n"
+
+
+def make_extents():
+    with open(os.path.join(HERE, "extents.txt"), "w") as file:
+        file.write(EXTENTS_HEAD)
+        for path in sorted(glob.glob(os.path.join(HERE, "*.fgb"))):
+            file.writelines(extents(path))
+
+
 def main():
     for name, texts in TEXTS.items():
         for z, m in ((0, 0), (1, 0), (0, 1), (1, 1)):
@@ -78,6 +104,7 @@ def main():
             make(stem + ".fgb", ogr.GT_SetModifier(NUMBERS[name], z, m), geometries)
     mixed = [ogr.CreateGeometryFromWkt(text) for texts in TEXTS.values() for text in texts]
     make(os.path.join(HERE, "unknown.fgb"), ogr.wkbUnknown, [geometry for geometry in mixed if not geometry.Is3D()])
+    make_extents()
 
 
 main()

@@ -1,5 +1,5 @@
 """What the lists cover: every refusal, every type, every change of mode, every entry of docs/DIFFERENCES.md, and what is easily misread:
-calls with no event, bits above the flags, parts of which nothing is said.
+calls with no event, bits above the flags, parts of which nothing is said, and boxes: each slip that boxes.py has must be told by a case.
 
     oracle/lists/coverage.py CRATES DIFFERENCES
 
@@ -8,6 +8,7 @@ Everything is found in the lists themselves, as the programs replay them. The an
 import collections, struct, sys
 
 import differences
+from boxes import SLIPS, Lent, Walk
 from cases import BOX, EVENT, EVENTS, FINISH, HEARD, NEXT, PROPERTY, READ, RECORD, SAID, START, TREE, WRITTEN, frames
 from client import store
 
@@ -19,6 +20,7 @@ Tree = collections.namedtuple("Tree", "declared flags lists events readings")
 Read = collections.namedtuple("Read", "number columns stop data values")
 Written = collections.namedtuple("Written", "number used column kind bits length text")
 Stored = collections.namedtuple("Stored", "sort number rest")
+Box = collections.namedtuple("Box", "number n lent edges")
 
 
 def numbers(case):
@@ -82,6 +84,15 @@ def properties(cases):
     return read, written
 
 
+def boxes(cases):
+    """Those over small tables first."""
+    for case in sorted(cases, key=len):
+        number, n, length, place, table_bytes, xy, words_at, *others = struct.unpack_from("<IQ10I", case, 4)
+        edges, given, rest = list(struct.unpack_from("<4Q", case, 56)), case[88:88 + table_bytes], case[88 + table_bytes:]
+        words = struct.unpack(f"<{len(rest) // 8}Q", rest)
+        yield Box(number, n, Lent(length, place, given, (xy, *others), words_at, words), edges)
+
+
 class Lists:
     def __init__(self, crates):
         self.rows = rows(crates + "/writer_cases/stdin")
@@ -89,6 +100,7 @@ class Lists:
         of = lambda *sorts: [case for case in cases if case[0] in sorts]
         self.trees = list(trees(of(TREE)))
         self.read, self.written = properties(of(READ, WRITTEN))
+        self.boxes = list(boxes(of(BOX)))
         self.store = [Stored(*numbers(case[:8]), case[8:]) for case in of(HEARD, SAID, RECORD, BOX)]
         self.calls = [call for row in self.rows for call in row]
 
@@ -125,6 +137,10 @@ class Lists:
 
     def has_values(self, given):
         return Read(given.number, [given.column], NO_STOP, bytes.fromhex(given.data), given.values) in self.read
+
+    def tells(self, walk):
+        """Whether a box has another answer in the list than this walk gives."""
+        return any(walk(box.lent).answer(box.n) != (box.number, box.edges) for box in self.boxes)
 
     def was_read(self, number, events=None, where=lambda tree: True):
         return any(where(tree) and any(given == number and events in (None, count) for _, _, given, count in tree.readings)
@@ -170,7 +186,7 @@ ENTRIES = {
     "Geometry records and tables.": lambda lists: all(lists.was_laid(RECORD, number) and lists.was_read(number) for number in (0, 10)),
     "Limits.": lambda lists: lists.was_called(EVENT, 12) and lists.was_written(12) and lists.was_read(9) and lists.was_laid(SAID, 9),
     "Turns.": lambda lists: all(lists.was_called(what, 15) for what in (EVENT, FINISH, NEXT)),
-    "Boxes by record number.": lambda lists: all(lists.was_laid(BOX, number) for number in (0, 10)),
+    "Boxes by record number.": lambda lists: all(lists.was_laid(BOX, number) for number in (0, 10, 13)),
     "A begin's size": lambda lists: all(lists.was_laid(HEARD, number, lambda event: event[:1] == kind and any(event[4:8]))
                                         for kind, number in ((b"\2", 0), (b"\1", 11))),
 }
@@ -215,6 +231,7 @@ def main():
     lists, missing = Lists(sys.argv[1]), []
     told = [entry for entry in entries(sys.argv[2]) if entry != "smallest input"]
     assert len(told) == len(set(told)), "two entries of one name"
+    assert not lists.tells(Walk), "a box that is not by boxes.py"
 
     def show(what, wanted, found):
         absent = sorted(set(wanted) - set(found))
@@ -230,6 +247,8 @@ def main():
     show("bit above the flags", (16, 32, 64, 128), [tree.flags & bit for tree in lists.trees for bit in (16, 32, 64, 128)])
     show("type of a silent part", (5, 17), [kind for tree in lists.trees for kind in silent_parts(tree)])
     show("change of mode", CHANGES, lists.changes())
+    show("number of a box", (0, 10, 13), [box.number for box in lists.boxes])
+    show("slip of a box", [slip.__name__ for slip in SLIPS], [slip.__name__ for slip in SLIPS if lists.tells(slip)])
     show("entry of docs/DIFFERENCES.md", told, [entry for entry in told if is_covered(entry, lists)])
     show("name of an entry here", differences.INPUTS.keys() | ENTRIES.keys(), told)
     for one in missing:

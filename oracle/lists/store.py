@@ -4,26 +4,26 @@
     oracle/lists/store.py ORACLE > LIST
 
 ORACLE is the oracle's program, the crate's own Rust. Its client's builders lay out the events and the trees (`ev`, `store`). Each
-expected number, list and edge is this script's own reading of SPEC 3 and 8. The oracle
-is asked too where it has an answer, and this script stops where the two differ: whether an event of 64 bytes is malformed, and the box
-that a writer keeps over the same pairs. It has none for refusals 9 and 10. The seed is fixed: the same list comes out every time.
+expected number, list and edge is this script's own reading of SPEC 3 and 8 (of boxes boxes.py's). The oracle is asked too where it has an
+answer, and this script stops where the two differ: whether an event of 64 bytes is malformed, and the box that a writer keeps over the
+same pairs, those of all parts joined. It has none for refusals 9, 10 and 13. The seed is fixed: the same list comes out every time.
 
 The numbers of a case, by their index; a word takes two.
   event    0: sort 0, 1: number; the event
   said     0: sort 1, 1: number, 2: log length, 3: count (word), 5: count after (word), 7: place; the event, the bytes at that place after
   record   0: sort 2, 1: number, 2: record (word), 4: table length, 5: place, 6: type, 7: lent of each pool,
            13: each list (present, start, count); the bytes at that place
-  box      0: sort 3, 1: number, 2: record (word), 4: table length, 5: place, 6: lent of xy, 7: place of the words, 8: lent of the other
-           pools, 13: four edges (words); the record at its place, the words at theirs
+  box      0: sort 3, 1: number, 2: record (word), 4: table length, 5: place, 6: bytes of the table, 7: lent of xy, 8: place of the
+           words, 9: lent of the other pools, 14: four edges (words); so many bytes of the table at their place, the words at theirs
 """
 import itertools, random, struct, sys
 
-from cases import BOX, HEARD, RECORD, SAID, canary_word, frame, word
-from client import Oracle, begin, ev, store
+from boxes import ABSENT, BAD_RECORD, DONE, INFINITY, SIGN, USABLE, Lent, Walk, judged
+from cases import BOX, HEARD, RECORD, SAID, frame, word
+from client import Oracle, begin, bits, ev, store
 
-DONE, LOG_FULL, BAD_RECORD, MALFORMED = 0, 9, 10, 11
+LOG_FULL, MALFORMED = 9, 11
 TOP = 2**32 - 1
-USABLE = (131072, 65536, 65536, 65536, 65536, 65536)
 oracle = Oracle(sys.argv[1])
 pick = random.Random(1)
 
@@ -119,32 +119,11 @@ def said_cases(good):
 
 # Geometry records.
 
-ABSENT = (0, 0, 0)
-
-
 def record(kind=0, lists=(), spare=0, last=0, top=0):
     """`lists` by number: (1, start, count), or (0, start, count) for a list that is absent and should be zeros."""
     rows = [dict(lists).get(i, ABSENT) for i in range(7)]
     present = sum(row[0] << i for i, row in enumerate(rows)) | top << 7
     return struct.pack("<BBH14II", kind, present, spare, *(n for row in rows for n in row[1:]), last)
-
-
-def judged(table_length, given, n, lent):
-    """The record's type and lists, or None for a bad one."""
-    records = table_length // 64
-    if table_length % 64 or n >= records or n > 4095:
-        return None
-    kind, present, spare, *pairs, last = struct.unpack("<BBH14II", given)
-    rows = [(present >> i & 1, *pairs[2 * i:2 * i + 2]) for i in range(7)]
-    ends = [min(pair) for pair in zip(lent, USABLE)] + [min(records, 4096)]
-    if spare or last or present >> 7:
-        return None
-    for (there, start, count), end in zip(rows, ends):
-        if start + count > (end if there else 0):
-            return None
-    if rows[6][0] and rows[6][1] <= n:
-        return None
-    return kind, rows
 
 
 def record_case(given, n=0, records=1, lent=(9,) * 6, rest=0):
@@ -227,27 +206,9 @@ def some_tree(levels):
 
 # Boxes.
 
-INFINITY = 0x7FF << 52
-SIGN = 1 << 63
-BEGINNING = (INFINITY, INFINITY, INFINITY | SIGN, INFINITY | SIGN)
 MAGNITUDES = [0, 1, 2, (1 << 52) - 1, 1 << 52, 1023 << 52, (1023 << 52) + 1, 1075 << 52, INFINITY - 1, INFINITY]
 NANS = [INFINITY + payload for payload in (1, 2, 1 << 51, (1 << 51) - 1, (1 << 51) + 1, (1 << 52) - 1, 0x123456789ABCD)]
 DOUBLES = [magnitude | sign for magnitude in MAGNITUDES + NANS for sign in (0, SIGN)]
-
-
-def double(bits):
-    return struct.unpack("<d", word(bits))[0]
-
-
-def box_of(words):
-    edges = list(BEGINNING)
-    for pair in zip(words[::2], words[1::2]):
-        for axis, bits in enumerate(pair):
-            if double(bits) < double(edges[axis]):
-                edges[axis] = bits
-            if double(bits) > double(edges[axis + 2]):
-                edges[axis + 2] = bits
-    return edges
 
 
 def oracle_box(words):
@@ -255,14 +216,13 @@ def oracle_box(words):
     return oracle.write([begin(4), *pairs], declared=4).state["box"]
 
 
-def box_case(given, words, n=0, records=1, lent=(0,) * 6, words_at=0, rest=0):
-    length = 64 * records + rest
-    found = judged(length, given, n, lent)
-    _, start, count = found[1][0] if found else ABSENT
-    pool = [words[i - words_at] if 0 <= i - words_at < len(words) else canary_word(i) for i in range(start, start + count)]
-    edges = box_of(pool)
-    assert edges == oracle_box(pool), words
-    head = (BOX, DONE if found else BAD_RECORD, word(n), length, 64 * n, lent[0], words_at)
+def box_case(given, words, n=0, records=1, lent=(0,) * 6, words_at=0, rest=0, place=None):
+    """`given` is a run of records; without a place for it, it is record n."""
+    length, place = 64 * records + rest, 64 * n if place is None else place
+    walk = Walk(Lent(length, place, given, lent, words_at, words))
+    number, edges = walk.answer(n)
+    assert number != DONE or edges == oracle_box(walk.joined), words
+    head = (BOX, number, word(n), length, place, len(given), lent[0], words_at)
     return frame(*head, *lent[1:], *map(word, edges), given, *map(word, words))
 
 
@@ -275,10 +235,10 @@ def box_cases():
     for first, second in itertools.product(DOUBLES, repeat=2):
         if pick.random() < 0.3 or first == second ^ SIGN:
             yield whole_list([first, second, second, first])
-    for bits in DOUBLES:
-        yield whole_list([bits, 0])
-        yield whole_list([0, bits])
-        yield whole_list([bits, bits, bits, bits])
+    for one in DOUBLES:
+        yield whole_list([one, 0])
+        yield whole_list([0, one])
+        yield whole_list([one, one, one, one])
     for count in range(14):
         for _ in range(8):
             words = [pick.choice(DOUBLES) if pick.random() < 0.5 else pick.getrandbits(64) for _ in range(count)]
@@ -302,11 +262,133 @@ def box_cases():
         yield whole_list([1, 2, 3, 4], n=n, records=records, rest=rest)
 
 
+# Boxes over parts. A table's links are a range for each record, the numbers of its parts.
+
+NONE = range(0)
+
+
+def continued(links, width):
+    """All records without parts have so many new records for theirs."""
+    new = range(len(links), len(links) + width)
+    return [parts or new for parts in links] + [NONE] * width
+
+
+def layers(count, width):
+    """Every record of a layer has the whole next layer for its parts."""
+    links = [NONE] * width
+    for _ in range(count - 1):
+        links = continued(links, width)
+    return links
+
+
+def last_of(links, branch):
+    n = 1 + branch
+    while links[n]:
+        n = links[n][0]
+    return n
+
+
+def branches(*lengths):
+    """A root with so many branches, each a chain of so many records."""
+    links = continued([NONE], len(lengths))
+    for branch, length in enumerate(lengths):
+        for _ in range(length - 1):
+            links[last_of(links, branch)] = range(len(links), len(links) + 1)
+            links.append(NONE)
+    return links
+
+
+def to_the_end(links):
+    return [range(parts.start, len(links)) if parts else parts for parts in links]
+
+
+def table_case(links, n=0, lists=None, kind=1, bad=(), first=0, **more):
+    """A table with these links, that begins as record `first`; without lists each record has a pair, farther out than those before it."""
+    lists = lists or [[bits(float(i)), bits(float(-i))] for i in range(len(links))]
+    given, words = [], []
+    for i, (xy, parts) in enumerate(zip(lists, links)):
+        rows = {0: (1, len(words), len(xy))} if xy is not None else {}
+        if parts.start:
+            rows[6] = (1, first + parts.start, len(parts))
+        given.append(record(kind, rows, spare=int(i in bad)))
+        words += xy or []
+    place = dict(n=first + n, records=first + len(links), place=64 * first)
+    return box_case(b"".join(given), words, lent=(len(words), 0, 0, 0, 0, 0), **place, **more)
+
+
+def level_cases():
+    """Chains, layers and parts to the table's end, from records about which level 16 is reached and passed."""
+    for length, n in itertools.product((15, 16, 17, 18), (0, 1, 2)):
+        yield table_case(layers(length, 1), n)
+    for links in (layers(16, 2), layers(17, 2), to_the_end(layers(32, 1)), to_the_end(layers(7, 2))):
+        for n in (0, 1, 2, len(links) // 2 - 1, len(links) // 2, len(links) - 1, len(links)):
+            yield table_case(links, n, first=n % 3)
+    for lengths in (range(1, 13), range(12, 0, -1), range(1, 14)):
+        links = branches(*lengths)
+        for _ in range(3):
+            links = continued(links, 2)
+        yield table_case(links)
+    yield table_case(branches(1, 1), rest=1)
+
+
+def twice_cases():
+    """A chain that is come to at one level and then at another, and just ends within the last level or passes it."""
+    for first, second in itertools.product((1, 2, 7, 13, 14), repeat=2):
+        for length in (15 - max(first, second), 16 - max(first, second)):
+            links = branches(first, second)
+            for _ in range(length):
+                links = continued(links, 1)
+            yield table_case(links)
+
+
+def refused_cases():
+    """Two branches that are well, end in a bad record at level 2, 16 or 17, or end well at level 17."""
+    sorts = list(itertools.product((1, 15, 16), (False, True)))
+    for first, second in itertools.product(sorts, repeat=2):
+        links = branches(first[0], second[0])
+        bad = [last_of(links, branch) for branch, (_, is_bad) in enumerate((first, second)) if is_bad]
+        yield table_case(links, bad=bad)
+
+
+def list_cases():
+    """Absent and empty lists and odd last words in each of three records; doubles that are easily misjudged in two of them."""
+    for counts in itertools.product((None, 0, 2, 3), repeat=3):
+        lists = [count if count is None else [pick.choice(DOUBLES) for _ in range(count)] for count in counts]
+        yield table_case(branches(2), lists=lists)
+        yield table_case(branches(1, 1), lists=lists)
+    special = [magnitude | sign for magnitude in (0, 1023 << 52, INFINITY, INFINITY + 1) for sign in (0, SIGN)]
+    for first, second in itertools.product(special, repeat=2):
+        yield table_case(branches(1), lists=[[first, second], [second, first]])
+        yield table_case(branches(1, 1), lists=[None, [first, second], [second, first]])
+    for kind in (*range(19), 255):
+        yield table_case(branches(2, 1), kind=kind)
+
+
+def some_links(records):
+    """Mostly present parts, few of many, so that records are shared and come to at several levels."""
+    for n in range(records):
+        start = pick.randint(n + 1, records)
+        yield range(start, pick.randint(start, min(start + 3, records))) if pick.random() < 0.7 else NONE
+
+
+def some_table_cases():
+    for _ in range(100):
+        records = pick.randrange(1, 20)
+        links = list(some_links(records))
+        lists = [[pick.choice(DOUBLES) for _ in range(pick.randrange(6))] if pick.random() < 0.8 else None for _ in links]
+        for bad in ((), (pick.randrange(records),)):
+            yield table_case(links, pick.randrange(1 + records // 3), lists, pick.randrange(18), bad, first=pick.randrange(3))
+
+
+def part_cases():
+    return itertools.chain(level_cases(), twice_cases(), refused_cases(), list_cases(), some_table_cases())
+
+
 def main():
     events_heard = list(events())
     good = [event for event in events_heard if event_number(event) == DONE]
     write = sys.stdout.buffer.write
-    for case in itertools.chain(map(event_case, events_heard), said_cases(good), record_cases(), box_cases()):
+    for case in itertools.chain(map(event_case, events_heard), said_cases(good), record_cases(), box_cases(), part_cases()):
         write(case)
 
 

@@ -1,4 +1,4 @@
-// Boxes of geometries by record number.
+// Boxes of geometries by record number. A case has a run of the table's records, and the words that their lists are in.
 use bbox::Box;
 use bbox::edge_bits;
 use record_box::Boxed;
@@ -10,8 +10,6 @@ use replay::past;
 use replay::unless;
 use replay::word;
 
-const RECORD_BYTES: usize = 64;
-
 // Where the parts of a case stand.
 const NUMBER: usize = 1;
 
@@ -21,15 +19,18 @@ const TABLE_LENGTH: usize = 4;
 
 const PLACE: usize = 5;
 
-const XY_LENT: usize = 6;
+// How many bytes of the table the case has.
+const TABLE_BYTES: usize = 6;
 
-const XY_PLACE: usize = 7;
+const XY_LENT: usize = 7;
 
-const OTHERS_LENT: usize = 8;
+const XY_PLACE: usize = 8;
 
-const EDGES: usize = 13;
+const OTHERS_LENT: usize = 9;
 
-const BYTES: usize = 21;
+const EDGES: usize = 14;
+
+const BYTES: usize = 22;
 
 pub fn boxed(case: &[u8], memory: &mut [u8], words: &mut [u64], ends: &[u32]) -> u8 {
     let length = number(case, TABLE_LENGTH);
@@ -41,15 +42,16 @@ pub fn boxed(case: &[u8], memory: &mut [u8], words: &mut [u64], ends: &[u32]) ->
         return difference::CASE;
     }
     let bytes = bytes_from(case, BYTES);
+    let table_bytes = number(case, TABLE_BYTES);
     replay::lay(
         &mut memory[0..length],
         number(case, PLACE),
-        first(bytes, RECORD_BYTES),
+        first(bytes, table_bytes),
     );
     replay::lay_words(
         &mut words[0..lent],
         number(case, XY_PLACE),
-        past(bytes, RECORD_BYTES),
+        past(bytes, table_bytes),
     );
     differences(ask(&memory[0..length], words, ends, case), case)
 }

@@ -1,5 +1,8 @@
 //! The proved library and the crate's own Rust, given the same: every number, count, state, record, word and byte is compared.
+mod boxes;
+mod extents;
 mod input;
+mod kept_box;
 mod make;
 mod port;
 mod readings;
@@ -7,7 +10,8 @@ mod rows;
 mod runs;
 mod tally;
 
-use input::{from_line, to_line, Input, Tree};
+use input::{from_line, to_line, Input, Row, Tree};
+use make::files::Feature;
 use make::pick::Pick;
 use std::path::{Path, PathBuf};
 use std::process::ExitCode;
@@ -51,19 +55,24 @@ struct Run {
 impl Run {
     fn compare(&mut self, input: &Input) {
         let difference = match input {
-            Input::Row(row) => rows::compare(row, &mut self.tally).and_then(|trees| {
-                runs::compare(row, &mut self.tally)?;
-                let declared = row.declared;
-                let mut read =
-                    |(i, store)| readings::compare_tree(&Tree { store, declared, flags: 0, cut: i as u32 }, &mut self.tally);
-                trees.into_iter().enumerate().try_for_each(&mut read)
-            }),
+            Input::Row(row) => self.compare_row(row),
             Input::Tree(tree) => readings::compare_tree(tree, &mut self.tally),
             Input::Properties(list) => readings::compare_properties(list, &mut self.tally),
         };
         if let Err(words) = difference {
             self.differ(input, &words);
         }
+    }
+
+    fn compare_row(&mut self, row: &Row) -> Result<(), String> {
+        let finished = rows::compare(row, &mut self.tally)?;
+        runs::compare(row, &mut self.tally)?;
+        for (i, feature) in finished.into_iter().enumerate() {
+            readings::compare_kept_box(&feature, &mut self.tally)?;
+            let tree = Tree { store: feature.tree, declared: row.declared, flags: 0, cut: i as u32 };
+            readings::compare_tree(&tree, &mut self.tally)?;
+        }
+        Ok(())
     }
 
     fn differ(&mut self, input: &Input, words: &str) {
@@ -78,6 +87,13 @@ impl Run {
         let path = self.kept.join(format!("{sum:016x}.input"));
         println!("  kept in {}", path.display());
         std::fs::write(&path, line + "\n").expect("the folder of kept inputs can be written");
+    }
+
+    fn compare_extents(&mut self, folder: &Path, features: &[Feature]) {
+        if let Err(words) = extents::compare(folder, features, &mut self.tally) {
+            self.differences += 1;
+            println!("DIFFERENCE: {words}");
+        }
     }
 
     fn replay(&mut self, folder: &Path) -> usize {
@@ -116,8 +132,14 @@ fn main() -> ExitCode {
     make::odd::each(&mut |input| run.compare(&input));
     make::limits::each(&mut |input| run.compare(&input));
     println!("at the limits: done after {:.0?}", began.elapsed());
-    match make::files::each(&options.files, &mut |input| run.compare(&input)) {
-        Ok(features) => println!("GDAL's files: {features} features, done after {:.0?}", began.elapsed()),
+    make::shared::each(&mut |input| run.compare(&input));
+    println!("shared parts: {} boxes after {:.0?}", run.tally.boxes, began.elapsed());
+    match make::files::features(&options.files) {
+        Ok(features) => {
+            features.iter().for_each(|feature| feature.each(&mut |input| run.compare(&input)));
+            run.compare_extents(&options.files, &features);
+            println!("GDAL's files: {} features, done after {:.0?}", features.len(), began.elapsed());
+        }
         Err(words) => println!("GDAL's files: {words}"),
     }
     make::exhaustive::each(&mut |input| run.compare(&input));

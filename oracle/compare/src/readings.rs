@@ -1,10 +1,11 @@
 //! Trees and property bytes read by both sides, into logs with room enough, with just too little, and with some between; and boxes.
-//! `original::reading` says what there is the Rust's and what SPEC's.
+//! `original::reading` says what there is the Rust's and what SPEC's, `boxes` what a box is held to.
+use crate::boxes::Boxes;
 use crate::input::{Properties, Tree};
 use crate::port::{self, Memory};
+use crate::rows::Finished;
 use crate::tally::{Asked, Tally};
-use original::answer::{BAD_RECORD, DONE, LOG_FULL};
-use original::packed_r_tree::NodeItem;
+use original::answer::{DONE, LOG_FULL};
 use original::reading;
 
 const UNTOUCHED: u8 = 0xA5;
@@ -58,29 +59,31 @@ fn check_log(what: &str, log: &[u8], expected: &[u8]) -> Result<(), String> {
     }
 }
 
+/// The boxes of a tree's records, and of numbers past its table.
 fn compare_boxes(tree: &Tree, memory: &Memory, tally: &mut Tally) -> Result<(), String> {
-    let records = (tree.store.table.len() / 64) as u32;
-    for n in [0, tree.cut % (records + 2), tree.cut] {
-        let words = tree.store.xy_of(n as usize);
-        let number = if words.is_some() { DONE } else { BAD_RECORD };
-        let expected = (number, bounds(words.unwrap_or_default()));
+    let boxes = Boxes::of(&tree.store);
+    let records = tree.store.records() as u32;
+    for n in boxes.asked().chain([records, records + 1, tree.cut, u32::MAX]) {
+        let expected = boxes.answer(n);
         let answered = port::edges(memory, n);
         if answered != expected {
             return Err(format!("the box of record {n} is {answered:x?}, not {expected:x?}"));
         }
-        tally.answered(Asked::Box, number);
+        tally.answered(Asked::Box, expected.0);
         tally.boxes += 1;
     }
     Ok(())
 }
 
-/// The Rust's own box, widened pair by pair.
-fn bounds(words: &[u64]) -> [u64; 4] {
-    let mut bounds = NodeItem::create(0);
-    for pair in words.chunks_exact(2) {
-        bounds.expand_xy(f64::from_bits(pair[0]), f64::from_bits(pair[1]));
+/// The root's box beside the one that the Rust's writer kept, where it must be the same.
+pub fn compare_kept_box(finished: &Finished, tally: &mut Tally) -> Result<(), String> {
+    let Some(kept) = finished.kept_box else { return Ok(()) };
+    let answered = port::edges(&Memory::of(&finished.tree), 0);
+    if answered != (DONE, kept) {
+        return Err(format!("the box of a finished feature is {answered:x?}, and the Rust keeps {kept:x?}"));
     }
-    [bounds.min_x, bounds.min_y, bounds.max_x, bounds.max_y].map(f64::to_bits)
+    tally.kept_box(finished.tree.records() > 1);
+    Ok(())
 }
 
 /// Bytes past these are neither read nor changed.

@@ -1,9 +1,12 @@
 //! Rows of calls to the two writers.
 //!
-//! The Rust's: whether types mix (5), the state after a call, every word and property byte laid down, and every finished tree.
+//! The Rust's: whether types mix (5), the state after a call, every word and property byte laid down, every finished tree, and the
+//! box that its writer keeps, where a finished tree's must be the same (`kept_box`).
 //! SPEC's, by the small model here: 11, 15, 16, 6 and 12, where a part's lists stand before the tree is finished (the finished
 //! tree is then compared with the Rust's), where the pending lists begin, and that all else stays as it was.
+use crate::boxes::Edges;
 use crate::input::{Call, Row, What};
+use crate::kept_box::KeptBox;
 use crate::port::{self, Lengths, Memory, Words, PROPERTIES, TABLE};
 use crate::tally::{Asked, Tally};
 use bintolage::usable::STATE_WORDS;
@@ -15,18 +18,24 @@ use original::tree::{put_list, Store, ENDS, MOST_RECORDS, MOST_WORDS};
 use original::writing::Writer;
 
 const MOST_PROPERTY_BYTES: usize = 65536;
-const COLLECTION: u8 = 1;
+pub const COLLECTION: u8 = 1;
 const FORCE_MULTI: u8 = 2;
 
-/// Compares a row, and gives the trees that were finished.
-pub fn compare(row: &Row, tally: &mut Tally) -> Result<Vec<Store>, String> {
+/// A feature's tree, and the box that the Rust keeps of it where the root's must be the same.
+pub struct Finished {
+    pub tree: Store,
+    pub kept_box: Option<Edges>,
+}
+
+/// Compares a row, and gives the features that were finished.
+pub fn compare(row: &Row, tally: &mut Tally) -> Result<Vec<Finished>, String> {
     let mut session = Session::new(row);
     session.check("start", DONE, DONE)?;
     for (i, call) in row.calls.iter().enumerate() {
         session.call(call, tally).map_err(|words| format!("call {i}: {words}"))?;
     }
     tally.rows += 1;
-    Ok(session.trees)
+    Ok(session.finished)
 }
 
 struct Session<'r> {
@@ -43,7 +52,8 @@ struct Session<'r> {
     /// The parts and property bytes of a finished feature that waits.
     waiting: Option<(usize, usize)>,
     noise: u64,
-    trees: Vec<Store>,
+    kept_box: KeptBox,
+    finished: Vec<Finished>,
 }
 
 /// What an event adds: words to each pool, then perhaps a part.
@@ -81,7 +91,8 @@ impl<'r> Session<'r> {
             start: [0; 6],
             waiting: None,
             noise: 0x9E37_79B9_7F4A_7C15,
-            trees: vec![],
+            kept_box: KeptBox::default(),
+            finished: vec![],
         }
     }
 
@@ -199,6 +210,7 @@ impl<'r> Session<'r> {
         let number = self.rust.event(event);
         if number == DONE {
             self.given.push(what);
+            self.kept_box.take(event, before.mode, self.rust.state().mode);
             self.lay_words(&before, &adds);
         }
         number
@@ -307,7 +319,8 @@ impl<'r> Session<'r> {
         if feature.properties != self.expected.properties[..before.properties] {
             return Err("the Rust's finished feature has other property bytes".into());
         }
-        self.trees.push(feature.tree);
+        let kept_box = self.kept_box.beside(&feature.tree, self.rust.bounds())?;
+        self.finished.push(Finished { tree: feature.tree, kept_box });
         Ok(DONE)
     }
 

@@ -1,4 +1,5 @@
 //! What a run has compared: how many of each sort, and what they covered.
+use original::answer::{BAD_RECORD, DONE, TOO_DEEP};
 use std::collections::{BTreeMap, BTreeSet};
 use std::fmt;
 
@@ -20,13 +21,17 @@ pub struct Tally {
     pub reads: u64,
     pub lists: u64,
     pub boxes: u64,
+    pub extents: u64,
     pub calls: u64,
+    kept_boxes: u64,
+    kept_boxes_over_parts: u64,
     numbers: BTreeMap<(Asked, u8), u64>,
     modes: BTreeMap<(u8, u8), u64>,
     types_written: BTreeSet<u8>,
     types_read: BTreeSet<u8>,
 }
 
+const BOX_NUMBERS: [u8; 3] = [DONE, BAD_RECORD, TOO_DEEP];
 const MODES: [&str; 3] = ["Normal", "GeometryCollection", "ForceMulti"];
 
 impl Tally {
@@ -50,7 +55,14 @@ impl Tally {
         self.types_read.insert(kind);
     }
 
-    /// SPEC's refusals, types and changes of mode that no input came to.
+    /// A finished feature's box beside the one that the Rust's writer kept.
+    pub fn kept_box(&mut self, has_parts: bool) {
+        self.kept_boxes += 1;
+        self.kept_boxes_over_parts += u64::from(has_parts);
+    }
+
+    /// SPEC's refusals, types and changes of mode that no input came to, the answers that a box must have had, and boxes that were to
+    /// be held to another's.
     pub fn missing(&self) -> Vec<String> {
         let mut missing = vec![];
         let answered = |number| self.numbers.keys().any(|(_, given)| *given == number);
@@ -60,6 +72,10 @@ impl Tally {
         missing.extend((0..=255u8).filter(|kind| !self.types_read.contains(kind)).map(|kind| format!("type {kind} read")));
         let changes = [(0, 1), (0, 2), (1, 0), (1, 2), (2, 0), (2, 1)];
         missing.extend(changes.iter().filter(|change| !self.modes.contains_key(change)).map(|change| format!("mode {change:?}")));
+        let boxed = |number: &u8| self.numbers.contains_key(&(Asked::Box, *number));
+        missing.extend(BOX_NUMBERS.iter().filter(|number| !boxed(number)).map(|number| format!("number {number} of a box")));
+        let others = [("box over parts that the Rust kept", self.kept_boxes_over_parts), ("extent of GDAL's", self.extents)];
+        missing.extend(others.iter().filter(|(_, compared)| *compared == 0).map(|(what, _)| what.to_string()));
         missing
     }
 }
@@ -68,6 +84,8 @@ impl fmt::Display for Tally {
     fn fmt(&self, to: &mut fmt::Formatter) -> fmt::Result {
         writeln!(to, "rows {}, reads {}, property lists {}, together {}", self.rows, self.reads, self.lists, self.compared())?;
         writeln!(to, "calls in rows {}, boxes {}", self.calls, self.boxes)?;
+        let (kept, over_parts) = (self.kept_boxes, self.kept_boxes_over_parts);
+        writeln!(to, "boxes that the Rust kept {kept}, of them over parts {over_parts}; GDAL's extents {}", self.extents)?;
         let mut last = None;
         for ((asked, number), count) in &self.numbers {
             if last != Some(asked) {

@@ -29,7 +29,7 @@ struct Record {
 impl Store {
     /// Refusal 10, from SPEC 3.9 alone: there is no record in the Rust to be bad.
     fn record(&self, n: usize) -> Option<Record> {
-        let records = self.table.len() / 64;
+        let records = self.records();
         if !self.table.len().is_multiple_of(64) || n >= records.min(MOST_RECORDS) {
             return None;
         }
@@ -53,10 +53,14 @@ impl Store {
         self.record(n).is_none()
     }
 
-    /// The edges of record n's xy list are taken over these words; nothing for a bad record.
-    pub fn xy_of(&self, n: usize) -> Option<&[u64]> {
-        let record = self.record(n)?;
-        Some(record.lists[0].clone().map_or(&[], |list| &self.pools[0][list]))
+    pub fn records(&self) -> usize {
+        self.table.len() / 64
+    }
+
+    /// The words of record n's own xy list, and the numbers of its parts; nothing for a bad record.
+    pub fn xy_and_parts(&self, n: usize) -> Option<(&[u64], Range<usize>)> {
+        let [xy, .., parts] = self.record(n)?.lists;
+        Some((&self.pools[0][xy.unwrap_or_default()], parts.unwrap_or_default()))
     }
 
     /// The tree below record 0 as the bytes of a Feature. What SPEC 7.4 refuses with 10 or 13 becomes a shut table.

@@ -7,6 +7,7 @@ pub fn each(give: &mut dyn FnMut(Input)) {
     ends(give);
     part_types(give);
     boxes(give);
+    box_lists(give);
     property_bytes(give);
     texts(give);
 }
@@ -105,13 +106,34 @@ fn part_types(give: &mut dyn FnMut(Input)) {
     }
 }
 
-/// Three pairs over doubles that a comparison can get wrong: both zeros, ones, infinities, NaNs, the least.
+/// Three pairs over doubles that a comparison can get wrong: both zeros, ones, infinities, NaNs, the least. They stand in one record;
+/// and one in a record, the second in a part and the third in that part's part, or in a part beside it.
 fn boxes(give: &mut dyn FnMut(Input)) {
     let doubles = [0, 1 << 63, ONE, ONE | 1 << 63, 0x7FF << 52, 0xFFF << 52, 0x7FF8 << 48, 0xFFF0_0000_0000_0001, 1];
     for code in 0..doubles.len().pow(3) {
         let at = |place: u32| doubles[code / doubles.len().pow(place) % doubles.len()];
         let words = vec![at(0), at(2), at(1), at(0), at(2), at(1)];
-        let root = Node { kind: 4, lists: [Some(words), None, None, None, None, None], parts: None };
+        let pair = |place: usize| Some(words[2 * place..2 * place + 2].to_vec());
+        boxed(give, [pair(0), pair(1), pair(2)]);
+        boxed(give, [Some(words), None, None]);
+    }
+}
+
+/// In each of three records no list, or up to three words: odd last words, present lists that are empty, absent ones.
+fn box_lists(give: &mut dyn FnMut(Input)) {
+    let list = |code: u64, first: u64| code.checked_sub(1).map(|count| (first..first + count).collect::<Vec<_>>());
+    for code in 0..125 {
+        boxed(give, [list(code % 5, ONE), list(code / 5 % 5, ONE + 3), list(code / 25, ONE + 6)]);
+        boxed(give, [list(code % 5, ONE + 6), list(code / 5 % 5, ONE + 3), list(code / 25, ONE)]);
+    }
+}
+
+/// Trees of three records with these xy lists: a root with a part in a part, and one with two parts.
+fn boxed(give: &mut dyn FnMut(Input), lists: [Option<Vec<u64>>; 3]) {
+    let [root, second, third] = lists.map(|xy| Node { kind: 4, lists: [xy, None, None, None, None, None], parts: None });
+    let nested = Node { parts: Some(vec![third.clone()]), ..second.clone() };
+    for parts in [vec![nested], vec![second, third]] {
+        let root = Node { parts: Some(parts), ..root.clone() };
         give(Input::Tree(Tree { store: laid(root, || 0), declared: 0, flags: 0, cut: 0 }));
     }
 }

@@ -9,32 +9,46 @@ use std::path::Path;
 
 const MAGIC: [u8; 4] = *b"fgb\x03";
 
-/// How many features the folder's files hold, each given in all those ways.
-pub fn each(folder: &Path, give: &mut dyn FnMut(Input)) -> Result<usize, String> {
+/// A feature of a file, with what the file's header says of all its features.
+pub struct Feature {
+    pub file: String,
+    /// Its number in the file, from 0.
+    pub number: usize,
+    pub store: Store,
+    declared: u8,
+    columns: Option<Vec<u8>>,
+    bytes: Vec<u8>,
+}
+
+/// All features of the folder's files, by the files' names.
+pub fn features(folder: &Path) -> Result<Vec<Feature>, String> {
     let mut paths: Vec<_> =
         std::fs::read_dir(folder).map_err(|error| error.to_string())?.flatten().map(|entry| entry.path()).collect();
     paths.retain(|path| path.extension().is_some_and(|extension| extension == "fgb"));
     paths.sort();
-    let mut features = 0;
+    let mut features = vec![];
     for path in paths {
         let bytes = std::fs::read(&path).map_err(|error| error.to_string())?;
-        features += file(&bytes, give).ok_or(format!("{} is no file that this reads", path.display()))?;
+        let name = path.file_name().unwrap_or_default().to_string_lossy();
+        features.extend(file(&name, &bytes).ok_or(format!("{} is no file that this reads", path.display()))?);
     }
     Ok(features)
 }
 
 /// A file without an index: the magic bytes, a header, features; each of the two has its length before it.
-fn file(bytes: &[u8], give: &mut dyn FnMut(Input)) -> Option<usize> {
+fn file(name: &str, bytes: &[u8]) -> Option<Vec<Feature>> {
     if bytes.get(..4)? != MAGIC {
         return None;
     }
     let mut rest = &bytes[8..];
     let header = size_prefixed_root_as_header(take(&mut rest)?).ok()?;
     let columns = header.columns().map(|columns| columns.iter().map(|column| column.type_().0).collect::<Vec<_>>());
-    let mut features = 0;
+    let mut features = vec![];
     while !rest.is_empty() {
-        feature(take(&mut rest)?, header.geometry_type().0, columns.as_deref(), give)?;
-        features += 1;
+        let bytes = take(&mut rest)?.to_vec();
+        let store = Store::from_geometry(size_prefixed_root_as_feature(&bytes).ok()?.geometry()?);
+        let (file, number, declared) = (name.to_string(), features.len(), header.geometry_type().0);
+        features.push(Feature { file, number, store, declared, columns: columns.clone(), bytes });
     }
     Some(features)
 }
@@ -45,20 +59,34 @@ fn take<'b>(rest: &mut &'b [u8]) -> Option<&'b [u8]> {
     Some(taken)
 }
 
-fn feature(bytes: &[u8], declared: u8, columns: Option<&[u8]>, give: &mut dyn FnMut(Input)) -> Option<()> {
-    let feature = size_prefixed_root_as_feature(bytes).ok()?;
-    let store = Store::from_geometry(feature.geometry()?);
-    for flags in 0..16 {
-        for declared in [declared, 0] {
-            give(Input::Tree(Tree { store: store.clone(), declared, flags, cut: 40 }));
+impl Feature {
+    /// The type that it is read as: the file's, or its own where that is 0.
+    pub fn kind(&self) -> u8 {
+        if self.declared == 0 {
+            self.store.table[0]
+        } else {
+            self.declared
         }
-        give(Input::Row(again(bytes, declared, flags)));
     }
-    let bytes = feature.properties().map(|list| list.bytes().to_vec()).unwrap_or_default();
-    for stop in [65_536, 0, 1, 2] {
-        give(Input::Properties(Properties { bytes: bytes.clone(), columns: columns.map(<[u8]>::to_vec), stop, cut: 20 }));
+
+    /// Gives it in all those ways.
+    pub fn each(&self, give: &mut dyn FnMut(Input)) {
+        for flags in 0..16 {
+            for declared in [self.declared, 0] {
+                give(Input::Tree(Tree { store: self.store.clone(), declared, flags, cut: 40 }));
+            }
+            give(Input::Row(again(&self.bytes, self.declared, flags)));
+        }
+        let bytes = self.properties();
+        for stop in [65_536, 0, 1, 2] {
+            give(Input::Properties(Properties { bytes: bytes.clone(), columns: self.columns.clone(), stop, cut: 20 }));
+        }
     }
-    Some(())
+
+    fn properties(&self) -> Vec<u8> {
+        let feature = size_prefixed_root_as_feature(&self.bytes).expect("read before");
+        feature.properties().map(|list| list.bytes().to_vec()).unwrap_or_default()
+    }
 }
 
 /// A row that writes the events of a feature twice.

@@ -7,4 +7,5 @@ pub mod odd;
 pub mod pick;
 pub mod records;
 pub mod rows;
+pub mod shared;
 pub mod trees;

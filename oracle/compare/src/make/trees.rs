@@ -1,11 +1,12 @@
-//! Random trees, good and damaged.
+//! Random trees, good, with shared parts, and damaged.
 use super::pick::Pick;
 use super::records::{laid, Node};
 use crate::input::Tree;
-use original::tree::Store;
+use original::tree::{put_list, Store};
 
 const PARENTS: [u8; 7] = [6, 7, 9, 10, 11, 12, 15];
 const COLLECTION: u8 = 7;
+const MOST_LINKED: usize = 3;
 const ALL: [u8; 15] = super::records::TYPES;
 
 /// Of a type that has parts: those that the crate reads in it.
@@ -20,16 +21,8 @@ fn usual_parts(kind: u8) -> &'static [u8] {
 }
 
 pub fn tree(pick: &mut Pick) -> Tree {
-    let deep = pick.one_in(100);
-    let kind = match pick.below(30) {
-        _ if deep => COLLECTION,
-        0 => pick.byte(),
-        _ => pick.of(&ALL),
-    };
-    let levels = if deep { 12 + pick.below(12) } else { 1 + pick.below(4) };
-    let root = node(pick, kind, levels);
-    let gaps = pick.one_in(4);
-    let mut store = laid(root, || if gaps { pick.below(3) } else { 0 });
+    let mut store = if pick.one_in(50) { linked(pick) } else { nested(pick) };
+    let kind = store.table[0];
     if pick.one_in(4) {
         damage(pick, &mut store);
     }
@@ -41,6 +34,55 @@ pub fn tree(pick: &mut Pick) -> Tree {
     };
     let flags = if pick.one_in(2) { 0 } else { pick.byte() % 16 };
     Tree { store, declared, flags, cut: pick.word() as u32 }
+}
+
+/// A tree whose records have one holder each; in one of three, some then have several.
+fn nested(pick: &mut Pick) -> Store {
+    let deep = pick.one_in(100);
+    let kind = match pick.below(30) {
+        _ if deep => COLLECTION,
+        0 => pick.byte(),
+        _ => pick.of(&ALL),
+    };
+    let levels = if deep { 12 + pick.below(12) } else { 1 + pick.below(4) };
+    let root = node(pick, kind, levels);
+    let gaps = pick.one_in(4);
+    let mut store = laid(root, || if gaps { pick.below(3) } else { 0 });
+    if pick.one_in(3) {
+        share(pick, &mut store);
+    }
+    store
+}
+
+fn share(pick: &mut Pick, store: &mut Store) {
+    let records = store.records();
+    for _ in 0..1 + pick.below(records) {
+        let n = pick.below(records);
+        link(pick, store, n, records);
+    }
+}
+
+/// Records enough to pass level 16, of any types, each of which has some of the next ones for its parts: most have several holders, at
+/// several levels.
+fn linked(pick: &mut Pick) -> Store {
+    let parts = (0..16 + pick.below(16)).map(|_| leaf(pick)).collect();
+    let mut store = laid(Node { parts: Some(parts), ..leaf(pick) }, || 0);
+    (0..store.records()).for_each(|n| link(pick, &mut store, n, 1));
+    store
+}
+
+fn leaf(pick: &mut Pick) -> Node {
+    let mut leaf = Node { kind: pick.of(&ALL), ..Default::default() };
+    own_lists(pick, &mut leaf);
+    leaf
+}
+
+/// Gives a record other parts, a few that begin at one of so many behind it. They may be parts already, and are then shared.
+fn link(pick: &mut Pick, store: &mut Store, n: usize, farthest: usize) {
+    let records = store.records();
+    let start = n + 1 + pick.below(farthest.min(records - n));
+    let count = pick.below(MOST_LINKED.min(records - start) + 1);
+    put_list(&mut store.table[64 * n..64 * n + 64], 6, start, count);
 }
 
 fn node(pick: &mut Pick, kind: u8, levels: usize) -> Node {
