@@ -12,6 +12,8 @@ XY, PARTS = 0, 6
 INFINITY = 0x7FF << 52
 SIGN = 1 << 63
 BEGINNING = [INFINITY, INFINITY, INFINITY | SIGN, INFINITY | SIGN]
+# A CircularString whose arc goes beyond its pairs: 0 0, 0 1, 1 1.
+ARC = [struct.unpack("<Q", struct.pack("<d", value))[0] for value in (0, 0, 0, 1, 1, 1)]
 
 
 def judged(table_length, given, n, lent):

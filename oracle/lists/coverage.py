@@ -8,7 +8,7 @@ Everything is found in the lists themselves, as the programs replay them. The an
 import collections, struct, sys
 
 import differences
-from boxes import SLIPS, Lent, Walk
+from boxes import ARC, SLIPS, Lent, Walk
 from cases import BOX, EVENT, EVENTS, FINISH, HEARD, NEXT, PROPERTY, READ, RECORD, SAID, START, TREE, WRITTEN, frames
 from client import store
 
@@ -186,6 +186,8 @@ ENTRIES = {
     "Geometry records and tables.": lambda lists: all(lists.was_laid(RECORD, number) and lists.was_read(number) for number in (0, 10)),
     "Limits.": lambda lists: lists.was_called(EVENT, 12) and lists.was_written(12) and lists.was_read(9) and lists.was_laid(SAID, 9),
     "Turns.": lambda lists: all(lists.was_called(what, 15) for what in (EVENT, FINISH, NEXT)),
+    "box of arcs": lambda lists: any((box.lent.table[:1], list(box.lent.words), box.number, box.edges) == (b"\x08", ARC, 0, ARC[:2] + ARC[4:])
+                                     for box in lists.boxes),
     "Boxes by record number.": lambda lists: all(lists.was_laid(BOX, number) for number in (0, 10, 13)),
     "A begin's size": lambda lists: all(lists.was_laid(HEARD, number, lambda event: event[:1] == kind and any(event[4:8]))
                                         for kind, number in ((b"\2", 0), (b"\1", 11))),

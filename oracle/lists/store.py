@@ -18,7 +18,7 @@ The numbers of a case, by their index; a word takes two.
 """
 import itertools, random, struct, sys
 
-from boxes import ABSENT, BAD_RECORD, DONE, INFINITY, SIGN, USABLE, Lent, Walk, judged
+from boxes import ARC, ABSENT, BAD_RECORD, DONE, INFINITY, SIGN, USABLE, Lent, Walk, judged
 from cases import BOX, HEARD, RECORD, SAID, frame, word
 from client import Oracle, begin, bits, ev, store
 
@@ -260,6 +260,7 @@ def box_cases():
         yield box_case(record(2, {row: (0, 1, 0)}), [1, 2, 3, 4], records=2, lent=(4,) * 6)
     for records, rest, n in ((0, 0, 0), (1, 1, 0), (1, 63, 0), (2, 0, 2), (2, 0, 1), (4096, 0, 4095), (4097, 0, 4096)):
         yield whole_list([1, 2, 3, 4], n=n, records=records, rest=rest)
+    yield box_case(record(8, {0: (1, 0, len(ARC))}), ARC, lent=(len(ARC), 0, 0, 0, 0, 0))
 
 
 # Boxes over parts. A table's links are a range for each record, the numbers of its parts.

@@ -1,7 +1,7 @@
 -- A box is a value that pairs widen, so a walk through shared records may skip what it has cleared: the answer is the plain recursion's.
 use mathlib.Core.Path.{_≡_, refl, sym, ap, subst, _∙_}
 use mathlib.Core.List.{List, [], _∷_}
-use mathlib.Core.Option.{Option, none, some}
+use mathlib.Core.Option.{Option, none}
 use Prim.Native.Nat.{ℕ, _≤_}
 use native.Mathlib.Omega.{arith}
 use lib.ListN.{replicate}
@@ -9,7 +9,7 @@ use Rattle.kinds.specs.declared.geometry.Lent.{Lent}
 use Rattle.store.specs.RecordLaws.{past-usable}
 use Rattle.store.specs.Lists.{Rec, Pools, lentOf, recordWith, with-bad}
 use Rattle.tree_walk.specs.declared.Parts.{Parts}
-use Rattle.tree_walk.specs.Tree.{Out, refused, went, found, parts, through}
+use Rattle.tree_walk.specs.Tree.{refused, found, parts, through}
 use Rattle.tree_walk.specs.Widen.{all, Growing, growing}
 use Rattle.tree_walk.specs.Memory.{Left, left, kept, uncounted}
 use Rattle.tree_walk.specs.Remembers.{Agree, agrees, so-refused, so-went, none-marked}
@@ -65,15 +65,15 @@ module _ (table : List ℕ) (P : Pools) (n : ℕ) {lent : Lent} (l : lent ≡ le
       ∙ ap (λ (k : Lent). walk (partsLent table k) (ownLent table k (P .xy)) beginning) (sym l)
       ∙ ap (walk (partsLent table lent) (ownLent table lent (P .xy))) (sym q) ∙ h
 
-  agreed : Agree (box-grows get) (partsBy get) uncounted (through (partsBy get) (ownBox get) 16 n beginning) (walk (partsBy get) (ownBox get) beginning)
+  agreed : Agree (box-grows get) (partsBy get) (through (partsBy get) (ownBox get) 16 n beginning) (walk (partsBy get) (ownBox get) beginning)
   agreed =
       agrees (box-grows get) (partsBy get) uncounted 16 n beginning (replicate 4096 17) 0 (omega arith)
-      (none-marked (box-grows get) (partsBy get) uncounted 17 4096 beginning refl)
+      (none-marked (box-grows get) (partsBy get) 17 4096 beginning refl)
 
   pub refused-box : (r .number ≡ 0 → ⊥) → boxed (refused (r .number)) ≡ boxOf get n
   unfolding boxOf
-  refused-box z = ap boxed (sym (so-refused (box-grows get) (partsBy get) uncounted agreed went-so z))
+  refused-box z = ap boxed (sym (so-refused (box-grows get) (partsBy get) agreed went-so z))
 
   pub went-box : r .number ≡ 0 → r ≡ boxOf get n
   unfolding boxOf
-  went-box z = ap (λ (c : ℕ). record { number = c; bbox = r .bbox }) z ∙ ap boxed (sym (so-went (box-grows get) (partsBy get) uncounted agreed went-so z))
+  went-box z = ap (λ (c : ℕ). record { number = c; bbox = r .bbox }) z ∙ ap boxed (sym (so-went (box-grows get) (partsBy get) agreed went-so z))

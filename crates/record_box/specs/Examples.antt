@@ -9,13 +9,14 @@ use lib.Ieee.{ofBits, lt}
 use Rattle.store.specs.Lists.{Rec}
 use Rattle.tree_walk.specs.Tree.{parts, through}
 use Rattle.tree_walk.specs.Records.{partsBy}
-use Rattle.bbox.specs.declared.Box.{Box}
+-- gone
 use Rattle.bbox.specs.Box.{double, beginning, widen, boxFrom}
 use Rattle.record_box.specs.declared.Boxed.{Boxed}
 use Rattle.record_box.specs.Boxed.{ownBox, boxOf}
 
+-- the type is not looked at, not even one that no reading follows
 abbrev listed : Option (List ℕ) → Option (ℕ × ℕ) → Option Rec
-listed xy parts = some (record { kind = 7; xy = xy; ends = none; z = none; m = none; t = none; tm = none; parts = parts })
+listed xy parts = some (record { kind = 200; xy = xy; ends = none; z = none; m = none; t = none; tm = none; parts = parts })
 
 -- so many parts, from a number on
 abbrev group : ℕ → ℕ → Option Rec

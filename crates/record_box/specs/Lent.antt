@@ -1,17 +1,17 @@
 -- The box as the code takes it, from a table and what is lent of the pools, of which it has the words of xy alone.
 use mathlib.Core.Path.{_≡_, refl, sym, ap, subst, _∙_}
 use mathlib.Core.Bool.{cond}
-use mathlib.Core.List.{List, [], _∷_}
-use mathlib.Core.Option.{Option, none, some}
+use mathlib.Core.List.{List, []}
+use mathlib.Core.Option.{Option, some}
 use Prim.Native.Nat.{ℕ, _+_}
 use lib.ListN.{length, getD, set}
-use Rattle.kinds.specs.Geometry.{loneGeometry}
+-- gone
 use Rattle.kinds.specs.declared.geometry.Geometry.{Geometry}
 use Rattle.kinds.specs.declared.geometry.Lent.{Lent}
 use Rattle.kinds.specs.declared.geometry.Lone.{Lone}
-use Rattle.kinds.specs.declared.geometry.Lone.the-variants.{List as Alone, Other}
+use Rattle.kinds.specs.declared.geometry.Lone.the-variants.{List as Alone}
 use Rattle.kinds.specs.declared.geometry.Span.{Span}
-use Rattle.kinds.specs.declared.geometry.Span.the-variants.{Absent, Stretch}
+use Rattle.kinds.specs.declared.geometry.Span.the-variants.{Stretch}
 use Rattle.kinds.specs.declared.geometry.Judged.{Judged}
 use Rattle.kinds.specs.declared.geometry.Judged.the-variants.{Good, Bad}
 use Rattle.store.specs.Records.{recordAt}

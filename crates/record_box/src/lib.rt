@@ -66,6 +66,7 @@ fn enter(
         };
     }
     let mark = marks[n];
+    // What was walked through as deep as this is refused nothing here, and its pairs move nothing a second time.
     if is_clear(mark, levels) {
         return Boxed {
             number: refusal::DONE,
@@ -123,6 +124,7 @@ fn walk(
         so_far = r.bbox;
         i += 1;
     }
+    // Behind the last part, so that a record with a mark is one whose parts were refused nothing.
     marks[n] = levels as u16;
     Boxed {
         number: refusal::DONE,

@@ -3,7 +3,7 @@ use mathlib.Core.Path.{_≡_, refl, ap, subst, _∙_}
 use mathlib.Core.Option.{Option, none, some}
 use Prim.Native.Nat.{ℕ, zero, suc, _+_}
 use Rattle.tree_walk.specs.declared.Parts.{Parts}
-use Rattle.tree_walk.specs.Tree.{Out, refused, went, then, found, parts, through}
+use Rattle.tree_walk.specs.Tree.{Out, went, then, found, parts, through}
 use Rattle.tree_walk.specs.Levels.{refused-not-went, both-went}
 use Rattle.tree_walk.specs.Widen.{Growing}
 

@@ -1,14 +1,16 @@
 pub mod Tree
+pub mod Order
 pub mod Refusals
 pub mod Levels
 pub mod Widen
 pub mod Again
 pub mod Reached
 pub mod Memory
+pub mod Cases
 pub mod Remembers
 pub mod Steps
 pub mod Visits
-pub mod Counts
+pub mod Alike
 pub mod Marks
 pub mod Looks
 pub mod Records

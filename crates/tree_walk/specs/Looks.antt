@@ -1,19 +1,20 @@
 -- A record's own words are looked at once: a walk whose value is how often each record's words were looked at.
-use mathlib.Core.Path.{_≡_, refl, sym, ap, _∙_}
-use mathlib.Core.Bool.{Bool, true, false, cond, _&&_}
+use mathlib.Core.Path.{_≡_, refl, sym, _∙_}
+use mathlib.Core.Bool.{Bool, true, false, cond}
 use mathlib.Core.List.{List}
-use mathlib.Core.Option.{Option, none, some}
+use mathlib.Core.Option.{Option, some}
 use Prim.Native.Nat.{ℕ, zero, suc, _+_, _<_, _≤_}
 use native.Mathlib.Omega.{arith}
-use lib.Dec.{leb, ltb, eqb}
+use lib.Dec.{eqb}
 use lib.ListN.{length, getD, set, replicate, length-set, length-replicate}
 use lib.Seq.{getD-set-same}
-use borrow.Author.Tests.{lt-ltb, eq-eqb, ne-eqb, eqb-true, eqb-false}
+use borrow.Author.Tests.{eq-eqb, ne-eqb, eqb-true, eqb-false}
 use Rattle.tree_walk.specs.declared.Parts.{Parts}
 use Rattle.laws.specs.Every.{never}
-use Rattle.tree_walk.specs.Memory.{Left, left, next, skips, isMark, partsKept, foundKept, ownOnce, marking, walked, kept}
+use Rattle.tree_walk.specs.Memory.{Left, left, next, isMark, partsKept, ownOnce, marking, kept}
+use Rattle.tree_walk.specs.Cases.{inside, entering}
 use Rattle.tree_walk.specs.Remembers.{set-mark, set-is-mark}
-use Rattle.tree_walk.specs.Counts.{Like, like, alike}
+use Rattle.tree_walk.specs.Alike.{Like, like, alike}
 use Rattle.tree_walk.specs.Marks.{marked}
 
 -- how often each record's own words were looked at
@@ -135,29 +136,13 @@ module _ (top : ℕ) where
           free x false e h false d = p .after refl x d ∙ w .there x (eqb-false x n e)
 
   module _ (tick : ℕ → ℕ) (get : ℕ → Option Parts) (up : (n : ℕ) (r : Parts) → get n ≡ some r → n < r .first) (low : (n : ℕ) (r : Parts) → get n ≡ some r → n < top) where
-    sees-below : (k n : ℕ) (f : Looks) (m : List ℕ) (v : ℕ) → suc k ≤ 16
-        → ((x : ℕ) (f : Looks) (m : List ℕ) (u : ℕ) → length m ≡ top → Sees x f m (kept tick get look k x f m u))
-        → length m ≡ top → Sees n f m (kept tick get look (suc k) n f m v)
-    unfolding kept walked
-    sees-below k n f m v deep ih h = by-mark (skips (getD m n 0) (suc k))
-      where
-        inside : Parts → Left Looks
-        inside r = partsKept (kept tick get look k) (r .count) (r .first) (ownOnce look (getD m n 0) n f) m (tick v)
-
-        by-record : (o : Option Parts) → get n ≡ o → Sees n f m (foundKept o f m (tick v) (λ r. next (inside r) (marking n (suc k))))
-        by-record none e = unseen n 10 f m h
-        by-record (some r) e =
-            mark-sees n k (r .first) f (ownOnce look (getD m n 0) n f) m deep (up n r e) (low n r e) (looked n f (getD m n 0)) (inside r)
-            (parts-see (kept tick get look k) ih (r .count) (r .first) (ownOnce look (getD m n 0) n f) m (tick v) h)
-
-        by-mark : (t : Bool) → Sees n f m (cond t (left 0 f m (tick v)) (foundKept (get n) f m (tick v) (λ r. next (inside r) (marking n (suc k)))))
-        by-mark true = unseen n 0 f m h
-        by-mark false = by-record (get n) refl
-
     sees : (k n : ℕ) (f : Looks) (m : List ℕ) (v : ℕ) → k ≤ 16 → length m ≡ top → Sees n f m (kept tick get look k n f m v)
     unfolding kept
     sees zero n f m v deep h = unseen n 13 f m h
-    sees (suc k) n f m v deep h = sees-below k n f m v deep (λ x g m′ u. sees k x g m′ u (omega arith)) h
+    sees (suc k) n f m v deep h =
+        entering tick get look k n f m v (Sees n f m) (λ s. unseen n 0 f m h) (λ e. unseen n 10 f m h)
+        (λ r e s. mark-sees n k (r .first) f (ownOnce look (getD m n 0) n f) m deep (up n r e) (low n r e) (looked n f (getD m n 0)) (inside tick get look k n f m v r)
+        (parts-see (kept tick get look k) (λ x g m′ u. sees k x g m′ u (omega arith)) (r .count) (r .first) (ownOnce look (getD m n 0) n f) m (tick v) h))
 
     at-most-once : (n : ℕ) (m : List ℕ) (l : Left Looks) → Sees n (λ x. 0) m l → {c : ℕ} {f : Looks} {m′ : List ℕ} {v : ℕ} → l ≡ left c f m′ v → (x : ℕ) → f x ≤ 1
     at-most-once n m (left c₀ f₀ m₀ v₀) p {c} {f} e x = let q : f₀ ≡ f = cc in rw q at (p .once x)

@@ -1,20 +1,22 @@
 -- After a walk that refused nothing, the marked records are those that the plain walk reached.
 use mathlib.Core.Path.{_≡_, refl, sym, ap, _∙_}
-use mathlib.Core.Bool.{Bool, true, false, cond, _&&_, _||_}
-use mathlib.Core.List.{List, [], _∷_, _++_}
-use mathlib.Core.Option.{Option, none, some}
+use mathlib.Core.Bool.{Bool, true, false, cond, _||_}
+use mathlib.Core.List.{List, [], _∷_}
+use mathlib.Core.Option.{Option, some}
 use Prim.Native.Nat.{ℕ, zero, suc, _+_, _<_, _≤_}
 use native.Mathlib.Omega.{arith}
-use lib.Dec.{leb, ltb, eqb}
+use lib.Dec.{eqb}
 use lib.ListN.{length, getD, set, replicate, length-set, length-replicate}
 use lib.Seq.{getD-set-same}
-use borrow.Author.Tests.{lt-ltb, ltb-true, eq-eqb, ne-eqb, eqb-true, eqb-false}
+use borrow.Author.Tests.{eq-eqb, eqb-true}
 use Rattle.laws.specs.Every.{never}
 use Rattle.tree_walk.specs.declared.Parts.{Parts}
-use Rattle.tree_walk.specs.Tree.{Out, refused, went, through}
+use Rattle.tree_walk.specs.Tree.{Out, went, through}
 use Rattle.tree_walk.specs.Widen.{all, Growing, growing}
 use Rattle.tree_walk.specs.Reached.{reached, joined}
-use Rattle.tree_walk.specs.Memory.{Left, left, next, skips, isMark, partsKept, foundKept, ownOnce, marking, walked, kept}
+use Rattle.tree_walk.specs.Memory.{Left, left, next, isMark, partsKept, ownOnce, marking, kept}
+use Rattle.tree_walk.specs.Cases.{inside, entering}
+use Rattle.tree_walk.specs.Alike.{Like, like, alike}
 use Rattle.tree_walk.specs.Remembers.{set-mark, at-first, set-is-mark, Agree, agrees, so-went, none-marked}
 
 -- ---- a set of records is a value that is widened
@@ -107,30 +109,26 @@ module _ (top : ℕ) where
         grows = λ x g. q .grows x (p .grows x g);
       }
 
-  module _ {S : Type 0} where
-    data Twin (s : Set) (m : List ℕ) : Left S → Left Set → Type 0 where
-      off : {c : ℕ} {b : S} {s′ : Set} {m′ : List ℕ} {v : ℕ} → Twin s m (left (suc c) b m′ v) (left (suc c) s′ m′ v)
-      on : {b : S} {s′ : Set} {m′ : List ℕ} {v : ℕ} → Synced s m s′ m′ → Twin s m (left 0 b m′ v) (left 0 s′ m′ v)
+  -- a walk that went through
+  abbrev Goes : Set → List ℕ → Left Set → Type 0
+  Goes s m (left zero s′ m′ v) = Synced s m s′ m′
+  Goes s m (left (suc c) s′ m′ v) = Unit
 
-    after : {s s′ : Set} {m m′ : List ℕ} {l : Left S} {l′ : Left Set} → Synced s m s′ m′ → Twin s′ m′ l l′ → Twin s m l l′
-    after p off = off
-    after p (on q) = on (both p q)
+  next-goes : (s : Set) (m : List ℕ) (l : Left Set) (g : Set → List ℕ → ℕ → Left Set) → Goes s m l
+      → ((s′ : Set) (m′ : List ℕ) (v : ℕ) → length m′ ≡ top → ((x : ℕ) → marked m′ x ≡ true → s′ x ≡ true) → Goes s′ m′ (g s′ m′ v)) → Goes s m (next l g)
+  next-goes s m (left zero s′ m′ v) g p h = after (g s′ m′ v) (h s′ m′ v (p .long) (p .flagged))
+    where
+      after : (l : Left Set) → Goes s′ m′ l → Goes s m l
+      after (left zero s″ m″ u) q = both p q
+      after (left (suc c) s″ m″ u) q = tt
+  next-goes s m (left (suc c) s′ m′ v) g p h = tt
 
-    next-twin : {s : Set} {m : List ℕ} {l : Left S} {l′ : Left Set} (f : S → List ℕ → ℕ → Left S) (g : Set → List ℕ → ℕ → Left Set) → Twin s m l l′
-        → ((b : S) (s′ : Set) (m′ : List ℕ) (v : ℕ) → length m′ ≡ top → ((x : ℕ) → marked m′ x ≡ true → s′ x ≡ true) → Twin s′ m′ (f b m′ v) (g s′ m′ v))
-        → Twin s m (next l f) (next l′ g)
-    next-twin f g off h = off
-    next-twin f g (on {b} {s′} {m′} {v} p) h = after p (h b s′ m′ v (p .long) (p .flagged))
-
-    parts-twin : (K : ℕ → S → List ℕ → ℕ → Left S) (L : ℕ → Set → List ℕ → ℕ → Left Set)
-        → ((n : ℕ) (b : S) (s : Set) (m : List ℕ) (v : ℕ) → length m ≡ top → ((x : ℕ) → marked m x ≡ true → s x ≡ true) → Twin s m (K n b m v) (L n s m v))
-        → (c n : ℕ) (b : S) (s : Set) (m : List ℕ) (v : ℕ) → length m ≡ top → ((x : ℕ) → marked m x ≡ true → s x ≡ true)
-        → Twin s m (partsKept K c n b m v) (partsKept L c n s m v)
-    unfolding partsKept
-    parts-twin K L h zero n b s m v k f = on (unmoved s m k f)
-    parts-twin K L h (suc c) n b s m v k f =
-        next-twin (partsKept K c (n + 1)) (partsKept L c (n + 1)) (h n b s m v k f)
-        (λ b′ s′ m′ v′ k′ f′. parts-twin K L h c (n + 1) b′ s′ m′ v′ k′ f′)
+  parts-go : (K : ℕ → Set → List ℕ → ℕ → Left Set)
+      → ((n : ℕ) (s : Set) (m : List ℕ) (v : ℕ) → length m ≡ top → ((x : ℕ) → marked m x ≡ true → s x ≡ true) → Goes s m (K n s m v))
+      → (c n : ℕ) (s : Set) (m : List ℕ) (v : ℕ) → length m ≡ top → ((x : ℕ) → marked m x ≡ true → s x ≡ true) → Goes s m (partsKept K c n s m v)
+  unfolding partsKept
+  parts-go K h zero n s m v k f = unmoved s m k f
+  parts-go K h (suc c) n s m v k f = next-goes s m (K n s m v) (partsKept K c (n + 1)) (h n s m v k f) (λ s′ m′ v′ k′ f′. parts-go K h c (n + 1) s′ m′ v′ k′ f′)
 
   -- what a record's own words make of a set
   record Begun (n : ℕ) (s s₀ : Set) : Type 0 where
@@ -155,94 +153,73 @@ module _ (top : ℕ) where
           }
       by-mark true h = record { more = λ x g. g; only = λ x g. or-left (s x) (eqb x n) g; here = h refl }
 
-  module _ {S : Type 0} where
-    mark-twin : (n k : ℕ) (s s₀ : Set) (m : List ℕ) → suc k ≤ 16 → n < top → Begun n s s₀ → (l : Left S) (l′ : Left Set) → Twin s₀ m l l′
-        → Twin s m (next l (marking n (suc k))) (next l′ (marking n (suc k)))
-    mark-twin n k s s₀ m deep low w l l′ off = off
-    mark-twin n k s s₀ m deep low w l l′ (on {b} {s′} {m′} {v} p) = on done
+  mark-goes : (n k : ℕ) (s s₀ : Set) (m : List ℕ) → suc k ≤ 16 → n < top → Begun n s s₀ → (l : Left Set) → Goes s₀ m l → Goes s m (next l (marking n (suc k)))
+  mark-goes n k s s₀ m deep low w (left (suc c) s′ m′ v) p = tt
+  mark-goes n k s s₀ m deep low w (left zero s′ m′ v) p = done
+    where
+      it : (x : ℕ) → eqb x n ≡ true → marked (set m′ n (suc k)) x ≡ true
+      it x e =
+          let q : x ≡ n = eqb-true x n e in
+          let h : n < length m′ = omega (arith, p .long) in
+          rw (q, getD-set-same m′ n (suc k) 0 h) (set-is-mark k deep)
+
+      kept-mark : (x : ℕ) → marked m′ x ≡ true → marked (set m′ n (suc k)) x ≡ true
+      kept-mark x g = set-mark (λ y u. isMark u ≡ true) m′ n (suc k) x g (set-is-mark k deep)
+
+      done : Synced s m s′ (set m′ n (suc k))
+      done =
+          record {
+            long = length-set m′ n (suc k) ∙ p .long;
+            flagged = λ x. set-mark (λ y u. isMark u ≡ true → s′ y ≡ true) m′ n (suc k) x (p .flagged x) (λ g. p .grows n (w .here));
+            new = λ x g. either ((s x || marked (set m′ n (suc k)) x) ≡ true) (p .new x g)
+                (λ a. either ((s x || marked (set m′ n (suc k)) x) ≡ true) (w .only x a) (or-left (s x) (marked (set m′ n (suc k)) x)) (λ e. or-right (s x) (marked (set m′ n (suc k)) x) (it x e)))
+                (λ a. or-right (s x) (marked (set m′ n (suc k)) x) (kept-mark x a));
+            stays = λ x g. kept-mark x (p .stays x g);
+            grows = λ x g. p .grows x (w .more x g);
+          }
+
+  module _ (tick : ℕ → ℕ) (get : ℕ → Option Parts) (low : (n : ℕ) (r : Parts) → get n ≡ some r → n < top) where
+    goes : (k n : ℕ) (s : Set) (m : List ℕ) (v : ℕ) → k ≤ 16 → length m ≡ top → ((y : ℕ) → marked m y ≡ true → s y ≡ true) → Goes s m (kept tick get flag k n s m v)
+    unfolding kept
+    goes zero n s m v deep h f = tt
+    goes (suc k) n s m v deep h f =
+        entering tick get flag k n s m v (Goes s m) (λ q. unmoved s m h f) (λ e. tt)
+        (λ r e q. mark-goes n k s (ownOnce flag (getD m n 0) n s) m deep (low n r e) (begun n s m f) (inside tick get flag k n s m v r)
+        (parts-go (kept tick get flag k) (λ x t m′ u. goes k x t m′ u (omega arith)) (r .count) (r .first) (ownOnce flag (getD m n 0) n s) m (tick v) h
+        (λ y g. begun n s m f .more y (f y g))))
+
+    -- what the set is at the end, by the marks
+    as-marked : (first : List ℕ) (s : Set) (m : List ℕ) → Synced (λ x. false) first s m → (x : ℕ) → s x ≡ marked m x
+    as-marked first s m p x = go (s x) (marked m x) (p .new x) (p .flagged x)
       where
-        it : (x : ℕ) → eqb x n ≡ true → marked (set m′ n (suc k)) x ≡ true
-        it x e =
-            let q : x ≡ n = eqb-true x n e in
-            let h : n < length m′ = omega (arith, p .long) in
-            rw (q, getD-set-same m′ n (suc k) 0 h) (set-is-mark k deep)
+        go : (a b : Bool) → (a ≡ true → b ≡ true) → (b ≡ true → a ≡ true) → a ≡ b
+        go true b f g = sym (f refl)
+        go false true f g = g refl
+        go false false f g = refl
 
-        kept-mark : (x : ℕ) → marked m′ x ≡ true → marked (set m′ n (suc k)) x ≡ true
-        kept-mark x g = set-mark (λ y u. isMark u ≡ true) m′ n (suc k) x g (set-is-mark k deep)
+    ended : {S : Type 0} (o : Out Set) (x : ℕ) (ns first : List ℕ) {l : Left S} {l′ : Left Set} → Like (λ y z. Unit) l l′ → Goes (λ y. false) first l′ → Agree flags get o l′
+        → ((e : Set) → o ≡ went e → e x ≡ among x ns) → {b : S} {m : List ℕ} {v : ℕ} → l ≡ left 0 b m v → marked m x ≡ among x ns
+    ended o x ns first (like {c} {d} {m = m′} {w = w} u) p a h {m} e = let z : c ≡ 0 = cc in go c z p a
+      where
+        go : (c : ℕ) → c ≡ 0 → Goes (λ y. false) first (left c d m′ w) → Agree flags get o (left c d m′ w) → marked m x ≡ among x ns
+        go zero z p a =
+            let q : m ≡ m′ = cc in
+            ap (λ (w : List ℕ). marked w x) q ∙ sym (as-marked first d m′ p x) ∙ h d (so-went flags get a refl refl)
+        go (suc c) z p a = absurd (omega arith)
 
-        done : Synced s m s′ (set m′ n (suc k))
-        done =
-            record {
-              long = length-set m′ n (suc k) ∙ p .long;
-              flagged = λ x. set-mark (λ y u. isMark u ≡ true → s′ y ≡ true) m′ n (suc k) x (p .flagged x) (λ g. p .grows n (w .here));
-              new = λ x g. either ((s x || marked (set m′ n (suc k)) x) ≡ true) (p .new x g)
-                  (λ a. either ((s x || marked (set m′ n (suc k)) x) ≡ true) (w .only x a) (or-left (s x) (marked (set m′ n (suc k)) x)) (λ e. or-right (s x) (marked (set m′ n (suc k)) x) (it x e)))
-                  (λ a. or-right (s x) (marked (set m′ n (suc k)) x) (kept-mark x a));
-              stays = λ x g. kept-mark x (p .stays x g);
-              grows = λ x g. p .grows x (w .more x g);
-            }
+    -- after a walk that refused nothing, from no mark at all: the marked records are those that the plain walk reached
+    pub marks-are : {S : Type 0} (own : ℕ → S → S) (blank : ℕ) → isMark blank ≡ false → (k n : ℕ) (b : S) (u : ℕ) {e : S} {m : List ℕ} {v : ℕ} → k ≤ 16
+        → kept tick get own k n b (replicate top blank) u ≡ left 0 e m v → (x : ℕ) → marked m x ≡ among x (reached get k n)
+    marks-are own blank z k n b u deep h x =
+        ended (through get flag k n (λ y. false)) x (reached get k n) (replicate top blank)
+        (alike (λ y t. Unit) tick tick get own flag (λ y d f p. tt) k n b (λ y. false) (replicate top blank) u u tt)
+        (goes k n (λ y. false) (replicate top blank) u deep (length-replicate top blank) (λ y g. absurd (never (sym (no-mark y) ∙ g))))
+        (agrees flags get tick k n (λ y. false) (replicate top blank) u deep (none-marked flags get blank top (λ y. false) z))
+        (λ s g. ap (λ (t : Set). t x) (sym (joined get flag k n (λ y. false) s g)) ∙ all-flags (reached get k n) (λ y. false) x ∙ or-false (among x (reached get k n))) h
+      where
+        no-mark : (y : ℕ) → marked (replicate top blank) y ≡ false
+        no-mark y = at-first (λ mark. isMark mark ≡ false) blank top y z refl
 
-    module _ (tick : ℕ → ℕ) (get : ℕ → Option Parts) (own : ℕ → S → S) (low : (n : ℕ) (r : Parts) → get n ≡ some r → n < top) where
-      twins-below : (k n : ℕ) (b : S) (s : Set) (m : List ℕ) (v : ℕ) → suc k ≤ 16
-          → ((x : ℕ) (c : S) (s : Set) (m : List ℕ) (u : ℕ) → length m ≡ top → ((y : ℕ) → marked m y ≡ true → s y ≡ true) → Twin s m (kept tick get own k x c m u) (kept tick get flag k x s m u))
-          → length m ≡ top → ((y : ℕ) → marked m y ≡ true → s y ≡ true) → Twin s m (kept tick get own (suc k) n b m v) (kept tick get flag (suc k) n s m v)
-      unfolding kept walked
-      twins-below k n b s m v deep ih h f = by-mark (skips (getD m n 0) (suc k))
-        where
-          one : Parts → Left S
-          one r = partsKept (kept tick get own k) (r .count) (r .first) (ownOnce own (getD m n 0) n b) m (tick v)
-
-          two : Parts → Left Set
-          two r = partsKept (kept tick get flag k) (r .count) (r .first) (ownOnce flag (getD m n 0) n s) m (tick v)
-
-          by-record : (o : Option Parts) → get n ≡ o
-              → Twin s m (foundKept o b m (tick v) (λ r. next (one r) (marking n (suc k)))) (foundKept o s m (tick v) (λ r. next (two r) (marking n (suc k))))
-          by-record none e = off
-          by-record (some r) e =
-              let w = begun n s m f in
-              mark-twin n k s (ownOnce flag (getD m n 0) n s) m deep (low n r e) w (one r) (two r)
-              (parts-twin (kept tick get own k) (kept tick get flag k) ih (r .count) (r .first) (ownOnce own (getD m n 0) n b) (ownOnce flag (getD m n 0) n s) m (tick v) h (λ y g. w .more y (f y g)))
-
-          by-mark : (t : Bool)
-              → Twin s m (cond t (left 0 b m (tick v)) (foundKept (get n) b m (tick v) (λ r. next (one r) (marking n (suc k)))))
-              (cond t (left 0 s m (tick v)) (foundKept (get n) s m (tick v) (λ r. next (two r) (marking n (suc k)))))
-          by-mark true = on (unmoved s m h f)
-          by-mark false = by-record (get n) refl
-
-      twins : (k n : ℕ) (b : S) (s : Set) (m : List ℕ) (v : ℕ) → k ≤ 16 → length m ≡ top → ((y : ℕ) → marked m y ≡ true → s y ≡ true)
-          → Twin s m (kept tick get own k n b m v) (kept tick get flag k n s m v)
-      unfolding kept
-      twins zero n b s m v deep h f = off
-      twins (suc k) n b s m v deep h f = twins-below k n b s m v deep (λ x c t m′ u. twins k x c t m′ u (omega arith)) h f
-
-      -- what the set is at the end, by the marks
-      as-marked : (first : List ℕ) (s : Set) (m : List ℕ) → Synced (λ x. false) first s m → (x : ℕ) → s x ≡ marked m x
-      as-marked first s m p x = go (s x) (marked m x) (p .new x) (p .flagged x)
-        where
-          go : (a b : Bool) → (a ≡ true → b ≡ true) → (b ≡ true → a ≡ true) → a ≡ b
-          go true b f g = sym (f refl)
-          go false true f g = g refl
-          go false false f g = refl
-
-      ended : (o : Out Set) (x : ℕ) (ns : List ℕ) {first : List ℕ} {l : Left S} {l′ : Left Set} → Twin (λ x. false) first l l′ → Agree flags get tick o l′
-          → ((e : Set) → o ≡ went e → e x ≡ among x ns) → {b : S} {m : List ℕ} {v : ℕ} → l ≡ left 0 b m v → marked m x ≡ among x ns
-      ended o x ns (off {c}) a h e = let z : suc c ≡ 0 = cc in absurd (omega arith)
-      ended o x ns {first} (on {s′} {m′} p) a h {m} e =
-          let q : m ≡ m′ = cc in
-          ap (λ (w : List ℕ). marked w x) q ∙ sym (as-marked first s′ m′ p x) ∙ h s′ (so-went flags get tick a refl refl)
-
-      -- after a walk that refused nothing, from no mark at all: the marked records are those that the plain walk reached
-      pub marks-are : (blank : ℕ) → isMark blank ≡ false → (k n : ℕ) (b : S) (u : ℕ) {e : S} {m : List ℕ} {v : ℕ} → k ≤ 16
-          → kept tick get own k n b (replicate top blank) u ≡ left 0 e m v → (x : ℕ) → marked m x ≡ among x (reached get k n)
-      marks-are blank z k n b u deep h x =
-          ended (through get flag k n (λ y. false)) x (reached get k n)
-          (twins k n b (λ y. false) (replicate top blank) u deep (length-replicate top blank) (λ y g. absurd (never (sym (no-mark y) ∙ g))))
-          (agrees flags get tick k n (λ y. false) (replicate top blank) u deep (none-marked flags get tick blank top (λ y. false) z))
-          (λ s g. ap (λ (t : Set). t x) (sym (joined get flag k n (λ y. false) s g)) ∙ all-flags (reached get k n) (λ y. false) x ∙ or-false (among x (reached get k n))) h
-        where
-          no-mark : (y : ℕ) → marked (replicate top blank) y ≡ false
-          no-mark y = at-first (λ mark. isMark mark ≡ false) blank top y z refl
-
-          or-false : (a : Bool) → (a || false) ≡ a
-          or-false true = refl
-          or-false false = refl
+        or-false : (a : Bool) → (a || false) ≡ a
+        or-false true = refl
+        or-false false = refl

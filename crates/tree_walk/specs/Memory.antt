@@ -1,6 +1,6 @@
--- The walk with a memory: for each record a mark, the levels that were left, its own among them, when it was last walked through; at first a number
--- that is none of 1 to 16. A record that was walked through as deep as this, or deeper, is skipped; of one that was walked through at all, what is
--- its own is skipped.
+-- The walk with a memory: for each record a mark, the levels that were left, its own among them, when it was last walked through without refusal; at
+-- first a number that is none of 1 to 16. A record that was walked through as deep as this, or deeper, is skipped; so each walk through it is deeper
+-- than the one before. Of a record that was walked through at all, what is its own is skipped.
 use mathlib.Core.Bool.{Bool, cond, _&&_}
 use mathlib.Core.List.{List}
 use mathlib.Core.Option.{Option, none, some}

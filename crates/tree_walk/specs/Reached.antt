@@ -1,10 +1,10 @@
--- The records that a plain walk goes through, in order, each as often as the walk comes to it; and the value as though all their words were one list.
-use mathlib.Core.Path.{_≡_, refl, sym, ap, _∙_}
+-- The records that a plain walk goes through where nothing refuses it, in order, each as often as the walk comes to it; and the value by them.
+use mathlib.Core.Path.{_≡_, refl, ap, _∙_}
 use mathlib.Core.List.{List, [], _∷_, _++_}
 use mathlib.Core.Option.{Option, none, some}
 use Prim.Native.Nat.{ℕ, zero, suc, _+_}
 use Rattle.tree_walk.specs.declared.Parts.{Parts}
-use Rattle.tree_walk.specs.Tree.{Out, refused, went, then, found, parts, through}
+use Rattle.tree_walk.specs.Tree.{Out, went, found, parts, through}
 use Rattle.tree_walk.specs.Levels.{refused-not-went, both-went}
 use Rattle.tree_walk.specs.Widen.{all}
 
@@ -20,21 +20,10 @@ unfoldable pub reached : (ℕ → Option Parts) → ℕ → ℕ → List ℕ
 reached get zero n = []
 reached get (suc k) n = foundReached (get n) n (λ r. partsReached (reached get k) (r .count) (r .first))
 
--- ---- the words of a row of records
-unfoldable pub wordsOf : {W : Type 0} → (ℕ → List W) → List ℕ → List W
-wordsOf words [] = []
-wordsOf words (n ∷ ns) = words n ++ wordsOf words ns
-
 all-append : {S W : Type 0} (widen : W → S → S) (xs ys : List W) (b : S) → all widen (xs ++ ys) b ≡ all widen ys (all widen xs b)
 unfolding all
 all-append widen [] ys b = refl
 all-append widen (x ∷ xs) ys b = all-append widen xs ys (widen x b)
-
-all-words : {S W : Type 0} (widen : W → S → S) (words : ℕ → List W) (ns : List ℕ) (b : S)
-    → all (λ n. all widen (words n)) ns b ≡ all widen (wordsOf words ns) b
-unfolding all wordsOf
-all-words widen words [] b = refl
-all-words widen words (n ∷ ns) b = all-words widen words ns (all widen (words n) b) ∙ sym (all-append widen (words n) (wordsOf words ns) b)
 
 module _ {S : Type 0} (get : ℕ → Option Parts) (own : ℕ → S → S) where
   parts-joined : (p : ℕ → S → Out S) (q : ℕ → List ℕ) → ((n : ℕ) (b e : S) → p n b ≡ went e → all own (q n) b ≡ e)
@@ -58,9 +47,3 @@ module _ {S : Type 0} (get : ℕ → Option Parts) (own : ℕ → S → S) where
   unfolding through reached
   joined zero n b e g = absurd (refused-not-went g)
   joined (suc k) n b e g = found-joined (through get own k) (reached get k) (joined k) (get n) n b e g
-
--- and that of their words, as though they were one list
-pub joined-words : {S W : Type 0} (widen : W → S → S) (words : ℕ → List W) (get : ℕ → Option Parts) (k n : ℕ) (b e : S)
-    → through get (λ n. all widen (words n)) k n b ≡ went e → all widen (wordsOf words (reached get k n)) b ≡ e
-joined-words widen words get k n b e g =
-    sym (all-words widen words (reached get k n) b) ∙ joined get (λ n. all widen (words n)) k n b e g

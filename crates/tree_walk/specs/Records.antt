@@ -1,5 +1,5 @@
 -- A table's records as a walk comes to them: the parts of each, and where they lie.
-use mathlib.Core.Path.{_≡_, refl, sym, ap, _∙_}
+use mathlib.Core.Path.{_≡_, refl, ap}
 use mathlib.Core.List.{List}
 use mathlib.Core.Option.{Option, none, some}
 use Prim.Native.Nat.{ℕ, _+_, _<_, _≤_}
@@ -12,7 +12,7 @@ use Rattle.kinds.specs.declared.geometry.Span.the-variants.{Absent, Stretch}
 use Rattle.kinds.specs.declared.geometry.Judged.{Judged}
 use Rattle.kinds.specs.declared.geometry.Judged.the-variants.{Good, Bad}
 use Rattle.store.specs.Records.{recordsLent, recordAt}
-use Rattle.store.specs.RecordLaws.{InTable, Within, within}
+use Rattle.store.specs.RecordLaws.{InTable, within}
 use Rattle.store.specs.Lists.{Rec, Pools, lentOf, partsOf, seen, recordWith}
 use Rattle.tree_walk.specs.declared.Parts.{Parts}
 
@@ -74,6 +74,3 @@ module _ (table : List ℕ) (lent : Lent) (n : ℕ) where
       go : (j : Judged) → recordAt table lent n ≡ j → partsJudged n j ≡ some r → Placed r
       go Bad q e = absurd (never (cc))
       go (Good g) q e = let p : partsFrom n (partsOf (g .parts)) ≡ r = cc in rw p at (good-placed g q)
-
-pub placed-by : (table : List ℕ) (P : Pools) (n : ℕ) (r : Parts) → partsBy (recordWith table P) n ≡ some r → Placed table (lentOf P) n r
-placed-by table P n r e = placed table (lentOf P) n r (sym (ap (λ (get : ℕ → Option Parts). get n) (by-lent table P)) ∙ e)

@@ -29,8 +29,3 @@ module _ {S : Type 0} where
   unfolding through
   through-due get own zero n b = refl
   through-due get own (suc k) n b = found-due (through get own k) (through-due get own k) (get n) (own n b)
-
-  -- with no level left it is 13, whatever the record is
-  pub level-first : (get : ℕ → Option Parts) (own : ℕ → S → S) (n : ℕ) (b : S) → through get own 0 n b ≡ refused 13
-  unfolding through
-  level-first get own n b = refl

@@ -1,11 +1,12 @@
--- The memory changes no answer.
+-- The memory changes no answer: what was walked through is refused nothing with more levels left (Levels), and moves nothing a second time (Again);
+-- and what a mark says stays true whatever comes after it.
 use mathlib.Core.Path.{_≡_, refl, sym, ap, subst, _∙_}
-use mathlib.Core.Bool.{Bool, true, false, cond, _&&_}
+use mathlib.Core.Bool.{Bool, true, false, cond}
 use mathlib.Core.List.{List, [], _∷_}
-use mathlib.Core.Option.{Option, none, some}
-use Prim.Native.Nat.{ℕ, zero, suc, _+_, _≤_, _<_}
+use mathlib.Core.Option.{Option}
+use Prim.Native.Nat.{ℕ, zero, suc, _+_, _≤_}
 use native.Mathlib.Omega.{arith}
-use lib.Dec.{leb, ltb, eqb}
+use lib.Dec.{leb, ltb}
 use lib.ListN.{getD, set, replicate}
 use borrow.Author.Tests.{ltb-true, leb-true, lt-ltb, le-leb}
 use Rattle.laws.specs.Every.{never, both}
@@ -13,8 +14,9 @@ use Rattle.tree_walk.specs.declared.Parts.{Parts}
 use Rattle.tree_walk.specs.Tree.{Out, refused, went, then, found, parts, through}
 use Rattle.tree_walk.specs.Levels.{more-levels}
 use Rattle.tree_walk.specs.Widen.{Growing}
+use Rattle.tree_walk.specs.Cases.{inside, entering}
 use Rattle.tree_walk.specs.Again.{passed, own-moves-none}
-use Rattle.tree_walk.specs.Memory.{Left, left, next, skips, isMark, partsKept, foundKept, ownOnce, marking, walked, kept}
+use Rattle.tree_walk.specs.Memory.{Left, left, next, skips, isMark, partsKept, ownOnce, marking, kept}
 
 -- a mark after one was set is the one set or the one before
 pub set-mark : (P : ℕ → ℕ → Type 0) (m : List ℕ) (n v x : ℕ) → P x (getD m x 0) → P n v → P x (getD (set m n v) x 0)
@@ -40,7 +42,7 @@ skip-mark mark levels deep h =
 pub set-is-mark : (k : ℕ) → suc k ≤ 16 → isMark (suc k) ≡ true
 set-is-mark k deep = rw (lt-ltb 0 (suc k) (omega arith), le-leb (suc k) 16 deep)
 
-module _ {S : Type 0} {own : ℕ → S → S} (G : Growing S own) (get : ℕ → Option Parts) (tick : ℕ → ℕ) where
+module _ {S : Type 0} {own : ℕ → S → S} (G : Growing S own) (get : ℕ → Option Parts) where
   -- if it is a mark: from any value above b, record n with so many levels left is refused nothing and moves nothing
   abbrev Clear : S → ℕ → ℕ → Type 0
   Clear b n mark = isMark mark ≡ true → (c : S) → G .Above b c → through get own mark n c ≡ went c
@@ -55,7 +57,7 @@ module _ {S : Type 0} {own : ℕ → S → S} (G : Growing S own) (get : ℕ →
   pub marked-above : (m : List ℕ) (b e : S) → G .Above b e → Marked m b → Marked m e
   marked-above m b e a h n = clear-above b e n (getD m n 0) a (h n)
 
-  -- the plain walk and the walk with a memory give the same number and value, and the marks stay true
+  -- both walks are refused with the same number; or neither is, and they give the same value, and the marks stay true
   pub data Agree : Out S → Left S → Type 0 where
     refuse : {c : ℕ} {b : S} {m : List ℕ} {v : ℕ} → Agree (refused (suc c)) (left (suc c) b m v)
     go-on : {b : S} {m : List ℕ} {v : ℕ} → Marked m b → Agree (went b) (left 0 b m v)
@@ -94,36 +96,20 @@ module _ {S : Type 0} {own : ℕ → S → S} (G : Growing S own) (get : ℕ →
       go true e = sym (own-moves-none G get mark n b (c e b (G .same b)))
       go false e = refl
 
-  agrees-below : (k n : ℕ) (b : S) (m : List ℕ) (v : ℕ) → suc k ≤ 16
-      → ((x : ℕ) (c : S) (m : List ℕ) (v : ℕ) → Marked m c → Agree (through get own k x c) (kept tick get own k x c m v))
-      → Marked m b → Agree (through get own (suc k) n b) (kept tick get own (suc k) n b m v)
-  unfolding through kept walked
-  agrees-below k n b m v deep ih marked = by-mark (skips (getD m n 0) (suc k)) refl
+  pub agrees : (tick : ℕ → ℕ) (k n : ℕ) (b : S) (m : List ℕ) (v : ℕ) → k ≤ 16 → Marked m b → Agree (through get own k n b) (kept tick get own k n b m v)
+  unfolding through kept
+  agrees tick zero n b m v deep marked = refuse
+  agrees tick (suc k) n b m v deep marked =
+      entering tick get own k n b m v (Agree (through get own (suc k) n b))
+      (λ s. subst (λ (o : Out S). Agree o (left 0 b m (tick v))) (sym (skip-agrees k n b m deep marked s)) (go-on marked))
+      (λ e. subst (λ (o : Out S). Agree o (left 10 b m (tick v))) (sym (ap plain e)) refuse)
+      (λ r e s. mark-agrees n k (subst (λ (o : Out S). Agree o (inside tick get own k n b m v r)) (sym (ap plain e))
+      (rw (own-once n b (getD m n 0) (marked n))
+      (parts-agree (through get own k) (kept tick get own k) (λ x c m′ u. agrees tick k x c m′ u (omega arith)) (r .count) (r .first) (own n b) m (tick v) (marked-above m b (own n b) (G .grows n b) marked))))
+      (λ c q. passed G get (suc k) n b c q .later))
     where
       plain : Option Parts → Out S
       plain o = found o (λ r. parts (through get own k) (r .count) (r .first) (own n b))
-
-      inside : Parts → Left S
-      inside r = partsKept (kept tick get own k) (r .count) (r .first) (ownOnce own (getD m n 0) n b) m (tick v)
-
-      in-parts : (r : Parts) → Agree (plain (some r)) (inside r)
-      in-parts r =
-          rw (own-once n b (getD m n 0) (marked n))
-          (parts-agree (through get own k) (kept tick get own k) ih (r .count) (r .first) (own n b) m (tick v) (marked-above m b (own n b) (G .grows n b) marked))
-
-      by-record : (o : Option Parts) → get n ≡ o → Agree (plain o) (foundKept o b m (tick v) (λ r. next (inside r) (marking n (suc k))))
-      by-record none e = refuse
-      by-record (some r) e = mark-agrees n k (in-parts r) (λ c q. passed G get (suc k) n b c (ap plain e ∙ q) .later)
-
-      by-mark : (t : Bool) → skips (getD m n 0) (suc k) ≡ t
-          → Agree (plain (get n)) (cond t (left 0 b m (tick v)) (foundKept (get n) b m (tick v) (λ r. next (inside r) (marking n (suc k)))))
-      by-mark true s = subst (λ (o : Out S). Agree o (left 0 b m (tick v))) (sym (skip-agrees k n b m deep marked s)) (go-on marked)
-      by-mark false s = by-record (get n) refl
-
-  pub agrees : (k n : ℕ) (b : S) (m : List ℕ) (v : ℕ) → k ≤ 16 → Marked m b → Agree (through get own k n b) (kept tick get own k n b m v)
-  unfolding through kept
-  agrees zero n b m v deep marked = refuse
-  agrees (suc k) n b m v deep marked = agrees-below k n b m v deep (λ x c m′ u. agrees k x c m′ u (omega arith)) marked
 
   -- ---- the plain walk's outcome by what the other left
   pub so-refused : {o : Out S} {l : Left S} {c : ℕ} {b : S} {m : List ℕ} {v : ℕ} → Agree o l → l ≡ left c b m v → (c ≡ 0 → ⊥) → o ≡ refused c

@@ -5,7 +5,7 @@ use mathlib.Core.List.{List}
 use mathlib.Core.Option.{Option, none, some}
 use Prim.Native.Nat.{ℕ, zero, suc, _+_, _-_, _<_, _≤_}
 use native.Mathlib.Omega.{arith}
-use lib.ListN.{getD, set}
+use lib.ListN.{getD}
 use Rattle.tree_walk.specs.declared.Parts.{Parts}
 use Rattle.tree_walk.specs.Memory.{Left, left, next, skips, partsKept, foundKept, ownOnce, marking, walked, kept}
 

@@ -26,4 +26,4 @@ parts part (suc c) n b = then (part n b) (parts part c (n + 1))
 -- Record n with so many levels left, its own among them: with none 13, before 10 is judged; then what is its own, then each part.
 unfoldable pub through : {S : Type 0} → (ℕ → Option Parts) → (ℕ → S → S) → ℕ → ℕ → S → Out S
 through get own zero n b = refused 13
-through get own (suc left) n b = found (get n) (λ r. parts (through get own left) (r .count) (r .first) (own n b))
+through get own (suc k) n b = found (get n) (λ r. parts (through get own k) (r .count) (r .first) (own n b))

@@ -1,19 +1,20 @@
 -- How many records the walk with a memory enters: at most one, and the places in all parts lists as often as there are levels.
 -- A record that is not skipped is marked deeper than before, so it is walked through once for each level at most.
 use mathlib.Core.Path.{_≡_, refl, sym, ap, _∙_}
-use mathlib.Core.Bool.{Bool, true, false, cond, _&&_}
+use mathlib.Core.Bool.{Bool, true, false, cond}
 use mathlib.Core.List.{List}
 use mathlib.Core.Option.{Option, none, some}
 use Prim.Native.Nat.{ℕ, zero, suc, _+_, _-_, _*_, _≤_, _<_}
 use native.Mathlib.Omega.{arith}
 use native.Mathlib.Nat.{mul-le-mul-left, mul-suc, mul-zero, mul-add, mul-comm}
-use lib.Dec.{leb, ltb, eqb}
+use lib.Dec.{leb, ltb}
 use lib.ListN.{length, getD, set, replicate, length-set, length-replicate}
 use lib.Seq.{getD-set-same, getD-set-other}
-use borrow.Author.Tests.{lt-ltb, leb-false, ltb-true, ltb-false}
+use borrow.Author.Tests.{leb-false, ltb-true, ltb-false}
 use Rattle.laws.specs.Every.{both, fails}
 use Rattle.tree_walk.specs.declared.Parts.{Parts}
-use Rattle.tree_walk.specs.Memory.{Left, left, next, skips, isMark, partsKept, foundKept, ownOnce, marking, walked, kept}
+use Rattle.tree_walk.specs.Memory.{Left, left, next, skips, isMark, partsKept, ownOnce, marking, kept}
+use Rattle.tree_walk.specs.Cases.{inside as inside-of, entering}
 use Rattle.tree_walk.specs.Remembers.{at-first, set-is-mark}
 
 -- places in a record's parts list
@@ -204,31 +205,17 @@ module _ (get : ℕ → Option Parts) (most top : ℕ) where
 
     module _ (own : ℕ → S → S) (tick : ℕ → ℕ) (ticks : (v : ℕ) → tick v ≤ v + 1)
         (up : (n : ℕ) (r : Parts) → get n ≡ some r → n < r .first) (low : (n : ℕ) (r : Parts) → get n ≡ some r → n < top) (few : most ≤ 16) where
-      within-below : (k n : ℕ) (b : S) (m : List ℕ) (v : ℕ) → suc k ≤ most
-          → ((x : ℕ) (c : S) (m : List ℕ) (u : ℕ) → length m ≡ top → Within x u 1 m (kept tick get own k x c m u))
-          → length m ≡ top → Within n v 1 m (kept tick get own (suc k) n b m v)
-      unfolding kept walked
-      within-below k n b m v deep ih h = by-mark (skips (getD m n 0) (suc k)) refl
-        where
-          in-parts : Parts → Left S
-          in-parts r = partsKept (kept tick get own k) (r .count) (r .first) (ownOnce own (getD m n 0) n b) m (tick v)
-
-          by-record : (o : Option Parts) → get n ≡ o → skips (getD m n 0) (suc k) ≡ false
-              → Within n v 1 m (foundKept o b m (tick v) (λ r. next (in-parts r) (marking n (suc k))))
-          by-record none e s = record { long = h; same = λ x g. refl; few = omega (arith, ticks v) }
-          by-record (some r) e s =
-              marked-within n m r e (up n r e) (low n r e) k v (tick v) (omega arith) (room-left most k (getD m n 0) deep s) (ticks v) (in-parts r)
-              (parts-within (kept tick get own k) ih (r .count) (r .first) (ownOnce own (getD m n 0) n b) m (tick v) h)
-
-          by-mark : (t : Bool) → skips (getD m n 0) (suc k) ≡ t
-              → Within n v 1 m (cond t (left 0 b m (tick v)) (foundKept (get n) b m (tick v) (λ r. next (in-parts r) (marking n (suc k)))))
-          by-mark true s = record { long = h; same = λ x g. refl; few = omega (arith, ticks v) }
-          by-mark false s = by-record (get n) refl s
+      only-entered : (n : ℕ) (b : S) (m : List ℕ) (v c : ℕ) → length m ≡ top → Within n v 1 m (left c b m (tick v))
+      only-entered n b m v zero h = record { long = h; same = λ x g. refl; few = omega (arith, ticks v) }
+      only-entered n b m v (suc c) h = record { long = h; same = λ x g. refl; few = omega (arith, ticks v) }
 
       within : (k n : ℕ) (b : S) (m : List ℕ) (v : ℕ) → k ≤ most → length m ≡ top → Within n v 1 m (kept tick get own k n b m v)
       unfolding kept
-      within zero n b m v deep h = record { long = h; same = λ x g. refl; few = omega (arith, ticks v) }
-      within (suc k) n b m v deep h = within-below k n b m v deep (λ x c m′ u g. within k x c m′ u (omega arith) g) h
+      within zero n b m v deep h = only-entered n b m v 13 h
+      within (suc k) n b m v deep h =
+          entering tick get own k n b m v (Within n v 1 m) (λ s. only-entered n b m v 0 h) (λ e. only-entered n b m v 10 h)
+          (λ r e s. marked-within n m r e (up n r e) (low n r e) k v (tick v) (omega arith) (room-left most k (getD m n 0) deep s) (ticks v) (inside-of tick get own k n b m v r)
+          (parts-within (kept tick get own k) (λ x c m′ u g. within k x c m′ u (omega arith) g) (r .count) (r .first) (ownOnce own (getD m n 0) n b) m (tick v) h))
 
       at-most : (n : ℕ) (l : Left S) (c : ℕ) (b : S) (m m′ : List ℕ) (v : ℕ) → Within n 0 1 m l → l ≡ left c b m′ v → v ≤ 1 + from n m
       at-most n (left c₀ b₀ m₀ v₀) c b m m′ v w e = let q : v₀ ≡ v = cc in omega (arith, w .few)

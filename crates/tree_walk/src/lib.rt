@@ -37,7 +37,7 @@ pub fn parts_of(s: Span, n: usize) -> Parts
     }
 }
 
-// Whether a record with such a mark was walked through with so many levels left, or fewer.
+// Whether a record with such a mark was walked through with so many levels left, or fewer. 0 is no mark, as NONE is none.
 pub fn is_clear(mark: u16, levels: u8) -> bool
     ensures { λ r. ⌜ r ≡ skips mark levels ⌝ }
 {

@@ -1,6 +1,6 @@
 -- A walk goes the same way whatever its value and its count: two walks over values that stay related give the same number and marks, and related values.
 -- So code without a counter is the walk that Visits bounds, and what Looks says of a walk that counts looks holds of any.
-use mathlib.Core.Path.{_≡_, refl, sym, ap, _∙_}
+use mathlib.Core.Path.{_≡_, refl, ap}
 use mathlib.Core.Bool.{Bool, true, false, cond}
 use mathlib.Core.List.{List}
 use mathlib.Core.Option.{Option, none, some}
@@ -31,18 +31,18 @@ module _ {S R : Type 0} (Rel : S → R → Type 0) where
   parts-like K L h (suc c) n b d m v w p =
       next-like (K n b m v) (L n d m w) (partsKept K c (n + 1)) (partsKept L c (n + 1)) (h n b d m v w p) (λ e f m′ u x q. parts-like K L h c (n + 1) e f m′ u x q)
 
-  module _ (tick tock : ℕ → ℕ) (get : ℕ → Option Parts) (own : ℕ → S → S) (eigen : ℕ → R → R)
-      (keeps : (n : ℕ) (b : S) (d : R) → Rel b d → Rel (own n b) (eigen n d)) where
-    once-like : (mark n : ℕ) (b : S) (d : R) → Rel b d → Rel (ownOnce own mark n b) (ownOnce eigen mark n d)
+  module _ (tick tick′ : ℕ → ℕ) (get : ℕ → Option Parts) (own : ℕ → S → S) (other : ℕ → R → R)
+      (keeps : (n : ℕ) (b : S) (d : R) → Rel b d → Rel (own n b) (other n d)) where
+    once-like : (mark n : ℕ) (b : S) (d : R) → Rel b d → Rel (ownOnce own mark n b) (ownOnce other mark n d)
     once-like mark n b d p = go (isMark mark)
       where
-        go : (t : Bool) → Rel (cond t b (own n b)) (cond t d (eigen n d))
+        go : (t : Bool) → Rel (cond t b (own n b)) (cond t d (other n d))
         go true = p
         go false = keeps n b d p
 
     alike-below : (k n : ℕ) (b : S) (d : R) (m : List ℕ) (v w : ℕ)
-        → ((x : ℕ) (b : S) (d : R) (m : List ℕ) (v w : ℕ) → Rel b d → Like (kept tick get own k x b m v) (kept tock get eigen k x d m w))
-        → Rel b d → Like (kept tick get own (suc k) n b m v) (kept tock get eigen (suc k) n d m w)
+        → ((x : ℕ) (b : S) (d : R) (m : List ℕ) (v w : ℕ) → Rel b d → Like (kept tick get own k x b m v) (kept tick′ get other k x d m w))
+        → Rel b d → Like (kept tick get own (suc k) n b m v) (kept tick′ get other (suc k) n d m w)
     unfolding kept walked
     alike-below k n b d m v w ih p = by-mark (skips (getD m n 0) (suc k))
       where
@@ -50,23 +50,23 @@ module _ {S R : Type 0} (Rel : S → R → Type 0) where
         one r = partsKept (kept tick get own k) (r .count) (r .first) (ownOnce own (getD m n 0) n b) m (tick v)
 
         two : Parts → Left R
-        two r = partsKept (kept tock get eigen k) (r .count) (r .first) (ownOnce eigen (getD m n 0) n d) m (tock w)
+        two r = partsKept (kept tick′ get other k) (r .count) (r .first) (ownOnce other (getD m n 0) n d) m (tick′ w)
 
         by-record : (o : Option Parts)
-            → Like (foundKept o b m (tick v) (λ r. next (one r) (marking n (suc k)))) (foundKept o d m (tock w) (λ r. next (two r) (marking n (suc k))))
+            → Like (foundKept o b m (tick v) (λ r. next (one r) (marking n (suc k)))) (foundKept o d m (tick′ w) (λ r. next (two r) (marking n (suc k))))
         by-record none = like p
         by-record (some r) =
             next-like (one r) (two r) (marking n (suc k)) (marking n (suc k))
-            (parts-like (kept tick get own k) (kept tock get eigen k) ih (r .count) (r .first) (ownOnce own (getD m n 0) n b) (ownOnce eigen (getD m n 0) n d) m (tick v) (tock w) (once-like (getD m n 0) n b d p))
+            (parts-like (kept tick get own k) (kept tick′ get other k) ih (r .count) (r .first) (ownOnce own (getD m n 0) n b) (ownOnce other (getD m n 0) n d) m (tick v) (tick′ w) (once-like (getD m n 0) n b d p))
             (λ e f m′ u x q. like q)
 
         by-mark : (t : Bool)
             → Like (cond t (left 0 b m (tick v)) (foundKept (get n) b m (tick v) (λ r. next (one r) (marking n (suc k)))))
-            (cond t (left 0 d m (tock w)) (foundKept (get n) d m (tock w) (λ r. next (two r) (marking n (suc k)))))
+            (cond t (left 0 d m (tick′ w)) (foundKept (get n) d m (tick′ w) (λ r. next (two r) (marking n (suc k)))))
         by-mark true = like p
         by-mark false = by-record (get n)
 
-    pub alike : (k n : ℕ) (b : S) (d : R) (m : List ℕ) (v w : ℕ) → Rel b d → Like (kept tick get own k n b m v) (kept tock get eigen k n d m w)
+    pub alike : (k n : ℕ) (b : S) (d : R) (m : List ℕ) (v w : ℕ) → Rel b d → Like (kept tick get own k n b m v) (kept tick′ get other k n d m w)
     unfolding kept
     alike zero n b d m v w p = like p
     alike (suc k) n b d m v w p = alike-below k n b d m v w (alike k) p
