@@ -98,17 +98,18 @@ pub fn open_rings_end() -> Feature {
 pub struct Values {
     pub kind: u8,
     pub bits: u64,
-    pub text: &'static str,
+    /// Not a literal: where one happens to lie in the program decides a row by a quarter.
+    pub text: String,
     pub count: usize,
 }
 
 pub fn ints() -> Values {
-    Values { kind: INT, bits: u64::from(-7i32 as u32), text: "", count: 10922 }
+    Values { kind: INT, bits: u64::from(-7i32 as u32), text: String::new(), count: 10922 }
 }
 
 /// Of 58 bytes each.
 pub fn strings() -> Values {
-    Values { kind: STRING, bits: 0, text: "drænrør nær grøft, 42 m øst for skel 7, dybde 1,2 m .", count: 1024 }
+    Values { kind: STRING, bits: 0, text: "drænrør nær grøft, 42 m øst for skel 7, dybde 1,2 m .".into(), count: 1024 }
 }
 
 /// A tree whose records share parts, and how many places its lists of parts have.

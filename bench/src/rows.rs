@@ -134,7 +134,7 @@ fn put_all(writer: &mut FeatureWriter, values: &Values) {
 /// As `put_all`, with a value whose text Rust's types hold to be UTF-8 already.
 fn put_all_checked(writer: &mut FeatureWriter, values: &Values) {
     for _ in 0..values.count {
-        writer.property(0, "c", &ColumnValue::String(black_box(values.text))).expect("the value is accepted");
+        writer.property(0, "c", &ColumnValue::String(black_box(&values.text))).expect("the value is accepted");
     }
 }
 
