@@ -33,7 +33,7 @@ module _ (side : Side) where
       by-w false e = h
 
 -- ---- all four
-box-of : {a b c d a′ b′ c′ d′ : Float} → a ≡ a′ → b ≡ b′ → c ≡ c′ → d ≡ d′
+pub box-of : {a b c d a′ b′ c′ d′ : Float} → a ≡ a′ → b ≡ b′ → c ≡ c′ → d ≡ d′
     → _≡_ {A = Box} (record { «least_x» = a; «least_y» = b; «greatest_x» = c; «greatest_y» = d }) (record { «least_x» = a′; «least_y» = b′; «greatest_x» = c′; «greatest_y» = d′ })
 box-of p q r s = rw (p, q, r, s)
 

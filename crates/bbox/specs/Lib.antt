@@ -6,3 +6,4 @@ pub mod Pairs
 pub mod Edges
 pub mod Less
 pub mod Again
+pub mod Join

@@ -40,7 +40,7 @@ pairs-then b [] ys = refl
 pairs-then b (x ∷ []) ys = refl
 pairs-then b (x ∷ y ∷ xs) ys = pairs-then (widen b x y) xs ys
 
-one-by-one : (get : ℕ → Option Rec) (ns : List ℕ) (b : Box) → boxFrom b (pairsJoined get ns) ≡ all (ownBox get) ns b
+pub one-by-one : (get : ℕ → Option Rec) (ns : List ℕ) (b : Box) → boxFrom b (pairsJoined get ns) ≡ all (ownBox get) ns b
 unfolding boxFrom pairsJoined all ownBox
 one-by-one get [] b = refl
 one-by-one get (n ∷ ns) b = pairs-then b (ownXy (get n)) (pairsJoined get ns) ∙ one-by-one get ns (boxFrom b (ownXy (get n)))

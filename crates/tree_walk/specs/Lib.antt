@@ -2,6 +2,7 @@ pub mod Tree
 pub mod Order
 pub mod Refusals
 pub mod Levels
+pub mod Anywhere
 pub mod Widen
 pub mod Again
 pub mod Reached
