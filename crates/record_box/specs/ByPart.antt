@@ -1,6 +1,5 @@
 -- SPEC 8.5: a part widens a box as the part's own box does, taken by its number.
-use mathlib.Core.Path.{_≡_, refl, sym, ap, _∙_}
-use mathlib.Core.List.{List}
+use mathlib.Core.Path.{_≡_, sym, ap, _∙_}
 use mathlib.Core.Option.{Option}
 use Prim.Native.Nat.{ℕ, _≤_}
 use Rattle.store.specs.Lists.{Rec}
@@ -12,7 +11,6 @@ use Rattle.tree_walk.specs.Records.{partsBy}
 use Rattle.bbox.specs.declared.Box.{Box}
 use Rattle.bbox.specs.Box.{beginning, boxFrom}
 use Rattle.bbox.specs.Join.{join, widened-by-box}
-use Rattle.record_box.specs.declared.Boxed.{Boxed}
 use Rattle.record_box.specs.Boxed.{ownBox, boxed, boxOf}
 use Rattle.record_box.specs.Joined.{pairsJoined, one-by-one}
 
