@@ -1,4 +1,4 @@
--- A record's own words are looked at once: a walk whose value is how often each record's words were looked at.
+-- No record's own words are looked at twice: a walk whose value is how often each record's words were looked at.
 use mathlib.Core.Path.{_≡_, refl, sym, _∙_}
 use mathlib.Core.Bool.{Bool, true, false, cond}
 use mathlib.Core.List.{List}
@@ -37,7 +37,7 @@ module _ (top : ℕ) where
     long : length m′ ≡ top
     under : (x : ℕ) → x < n → f′ x ≡ f x
     once : (x : ℕ) → f′ x ≤ f x + 1
-    never : (x : ℕ) → marked m x ≡ true → f′ x ≡ f x
+    spared : (x : ℕ) → marked m x ≡ true → f′ x ≡ f x
     after : c ≡ 0 → (x : ℕ) → marked m′ x ≡ false → f′ x ≡ f x
     stays : c ≡ 0 → (x : ℕ) → marked m x ≡ true → marked m′ x ≡ true
 
@@ -45,7 +45,7 @@ module _ (top : ℕ) where
   Sees n f m (left c f′ m′ v) = Seen n f m c f′ m′
 
   unseen : (n c : ℕ) (f : Looks) (m : List ℕ) → length m ≡ top → Seen n f m c f m
-  unseen n c f m h = record { long = h; under = λ x g. refl; once = λ x. omega arith; never = λ x g. refl; after = λ z x g. refl; stays = λ z x g. g }
+  unseen n c f m h = record { long = h; under = λ x g. refl; once = λ x. omega arith; spared = λ x g. refl; after = λ z x g. refl; stays = λ z x g. g }
 
   -- a part and then the others
   second : (n : ℕ) (f f₁ : Looks) (m m₁ : List ℕ) → Seen n f m 0 f₁ m₁ → (l : Left Looks) → Sees (n + 1) f₁ m₁ l → Sees n f m l
@@ -54,13 +54,13 @@ module _ (top : ℕ) where
         long = q .long;
         under = λ x h. q .under x (omega arith) ∙ p .under x h;
         once = λ x. by-mark x (marked m₁ x) refl;
-        never = λ x h. q .never x (p .stays refl x h) ∙ p .never x h;
+        spared = λ x h. q .spared x (p .stays refl x h) ∙ p .spared x h;
         after = λ z x h. q .after z x h ∙ unmarked z x h (marked m₁ x) refl;
         stays = λ z x h. q .stays z x (p .stays refl x h);
       }
     where
       by-mark : (x : ℕ) (t : Bool) → marked m₁ x ≡ t → f₂ x ≤ f x + 1
-      by-mark x true e = omega (arith, q .never x e, p .once x)
+      by-mark x true e = omega (arith, q .spared x e, p .once x)
       by-mark x false e = omega (arith, q .once x, p .after refl x e)
 
       unmarked : c ≡ 0 → (x : ℕ) → marked m₂ x ≡ false → (t : Bool) → marked m₁ x ≡ t → f₁ x ≡ f x
@@ -109,7 +109,7 @@ module _ (top : ℕ) where
             long = p .long;
             under = λ x h. p .under x (omega arith) ∙ w .there x (λ e. omega arith);
             once = λ x. same (suc c) f₁ m₁ p x (eqb x n) refl;
-            never = λ x h. p .never x h ∙ held x (eqb x n) refl h;
+            spared = λ x h. p .spared x h ∙ held x (eqb x n) refl h;
             after = λ z. absurd (omega arith);
             stays = λ z. absurd (omega arith);
           }
@@ -118,7 +118,7 @@ module _ (top : ℕ) where
             long = length-set m₁ n (suc k) ∙ p .long;
             under = λ x h. p .under x (omega arith) ∙ w .there x (λ e. omega arith);
             once = λ x. same 0 f₁ m₁ p x (eqb x n) refl;
-            never = λ x h. p .never x h ∙ held x (eqb x n) refl h;
+            spared = λ x h. p .spared x h ∙ held x (eqb x n) refl h;
             after = λ z x h. free x (eqb x n) refl h (marked m₁ x) refl;
             stays = λ z x h. keeps x (p .stays refl x h);
           }

@@ -33,7 +33,7 @@ at-first P blank (suc k) zero p q = p
 at-first P blank (suc k) (suc n) p q = at-first P blank k n p q
 
 -- a mark that is skipped, or that was set, is one
-pub skip-mark : (mark levels : ℕ) → levels ≤ 16 → skips mark levels ≡ true → isMark mark ≡ true
+skip-mark : (mark levels : ℕ) → levels ≤ 16 → skips mark levels ≡ true → isMark mark ≡ true
 skip-mark mark levels deep h =
     let t = both (ltb 0 mark) (leb mark levels) h in
     let low = ltb-true 0 mark (t .0) in
@@ -54,7 +54,7 @@ module _ {S : Type 0} {own : ℕ → S → S} (G : Growing S own) (get : ℕ →
   clear-above : (b e : S) (n mark : ℕ) → G .Above b e → Clear b n mark → Clear e n mark
   clear-above b e n mark a h t c u = h t c (G .join a u)
 
-  pub marked-above : (m : List ℕ) (b e : S) → G .Above b e → Marked m b → Marked m e
+  marked-above : (m : List ℕ) (b e : S) → G .Above b e → Marked m b → Marked m e
   marked-above m b e a h n = clear-above b e n (getD m n 0) a (h n)
 
   -- both walks are refused with the same number; or neither is, and they give the same value, and the marks stay true

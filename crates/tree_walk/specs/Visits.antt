@@ -145,7 +145,8 @@ module _ (get : ℕ → Option Parts) (most top : ℕ) where
       let whole : from 0 (replicate k blank) ≡ most * places get top 0 = ap (λ (f : ℕ). work f 0 (replicate k blank)) all ∙ all-work blank z top 0 k in
       rw whole at (rw a at (less n 0 (replicate k blank)))
 
-  -- ---- what a walk from record n leaves, where `cost` records were entered from outside
+  -- ---- A walk over the records from n on, `cost` of which it was sent to, has entered v′ - v of them: those, and what the marks that it set have paid for.
+  -- It leaves the marks below n alone. After a refusal nothing is left to be paid for.
   abbrev still : ℕ → ℕ → List ℕ → ℕ
   still n zero m = from n m
   still n (suc c) m = 0
