@@ -21,6 +21,10 @@ static const bintolage_memory memory = {
     .properties = properties, .properties_bytes = sizeof properties,
 };
 
+/* The numbers of the two features. */
+#define FIELD 1
+#define BLOCKS 2
+
 static const uint8_t columns[] = {BINTOLAGE_COLUMN_DOUBLE, BINTOLAGE_COLUMN_USHORT, BINTOLAGE_COLUMN_STRING};
 static const char *const names[] = {"depth", "slope", "crew"};
 static const char crew[] = "Jensen, Søren";
@@ -44,37 +48,37 @@ static void give(bintolage_event_record event)
     must("give", bintolage_give(&state, &memory, event));
 }
 
-static void give_ring(uint32_t idx, const double pairs[][2], uint32_t count)
+static void give_ring(uint32_t feature, uint32_t idx, const double pairs[][2], uint32_t count)
 {
-    give(bintolage_begin(BINTOLAGE_LINE_STRING, 0, count, idx));
+    give(bintolage_begin(feature, BINTOLAGE_LINE_STRING, 0, count, idx));
     for (uint32_t i = 0; i < count; i++) {
-        give(bintolage_xy(pairs[i][0], pairs[i][1], i));
+        give(bintolage_xy(feature, pairs[i][0], pairs[i][1], i));
     }
-    give(bintolage_end(BINTOLAGE_LINE_STRING, 0, idx));
+    give(bintolage_end(feature, BINTOLAGE_LINE_STRING, 0, idx));
 }
 
 static void give_field(void)
 {
-    give(bintolage_begin(BINTOLAGE_POLYGON, 1, 3, 0));
-    give_ring(0, edge, 5);
-    give_ring(1, main_pipe, 5);
-    give_ring(2, well, 4);
-    give(bintolage_end(BINTOLAGE_POLYGON, 1, 0));
+    give(bintolage_begin(FIELD, BINTOLAGE_POLYGON, 1, 3, 0));
+    give_ring(FIELD, 0, edge, 5);
+    give_ring(FIELD, 1, main_pipe, 5);
+    give_ring(FIELD, 2, well, 4);
+    give(bintolage_end(FIELD, BINTOLAGE_POLYGON, 1, 0));
 }
 
 static void give_block(uint32_t idx, const double pairs[][2], uint32_t count)
 {
-    give(bintolage_begin(BINTOLAGE_POLYGON, 0, 1, idx));
-    give_ring(0, pairs, count);
-    give(bintolage_end(BINTOLAGE_POLYGON, 0, idx));
+    give(bintolage_begin(BLOCKS, BINTOLAGE_POLYGON, 0, 1, idx));
+    give_ring(BLOCKS, 0, pairs, count);
+    give(bintolage_end(BLOCKS, BINTOLAGE_POLYGON, 0, idx));
 }
 
 static void give_blocks(void)
 {
-    give(bintolage_begin(BINTOLAGE_MULTI_POLYGON, 0, 2, 0));
+    give(bintolage_begin(BLOCKS, BINTOLAGE_MULTI_POLYGON, 0, 2, 0));
     give_block(0, west, 4);
     give_block(1, east, 4);
-    give(bintolage_end(BINTOLAGE_MULTI_POLYGON, 0, 0));
+    give(bintolage_end(BLOCKS, BINTOLAGE_MULTI_POLYGON, 0, 0));
 }
 
 static void give_properties(void)
@@ -98,11 +102,11 @@ static void print_event(bintolage_event_fields e)
 }
 
 /* The box of record 0 is around the whole feature, also where all its pairs are in its parts. */
-static void print_feature(void)
+static void print_feature(uint32_t feature)
 {
     uint32_t count;
     bintolage_edges box;
-    must("read", bintolage_read_feature(&memory, BINTOLAGE_UNKNOWN, 0, events, 64, &count));
+    must("read", bintolage_read_feature(&memory, BINTOLAGE_UNKNOWN, 0, feature, events, 64, &count));
     for (uint32_t i = 0; i < count; i++) {
         print_event(bintolage_event_of(&events[i]));
     }
@@ -135,12 +139,12 @@ int main(void)
     give_field();
     give_properties();
     must("finish", bintolage_finish_feature(&state, &memory));
-    print_feature();
+    print_feature(FIELD);
     print_properties();
     must("next", bintolage_next_feature(&state, &memory));
     give_blocks();
     must("finish", bintolage_finish_feature(&state, &memory));
-    print_feature();
+    print_feature(BLOCKS);
     must("next", bintolage_next_feature(&state, &memory));
     return 0;
 }

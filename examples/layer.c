@@ -1,5 +1,5 @@
-/* The inline layer of bintolage.h, checked: records that are built are read back, null lists are lent as none, and every
- * answer has its words. Prints how many checks were made and how many failed. */
+/* The inline layer of bintolage.h, checked: records that are built are read back, null lists are lent as none, features are
+ * told apart by their numbers, and every answer has its words. Prints how many checks were made and how many failed. */
 #include "bintolage.h"
 
 #include <stdio.h>
@@ -17,6 +17,9 @@ static void check(const char *what, int holds)
 }
 
 #define MOST 0xffffffffu
+
+/* A feature's number of which every byte is another. */
+#define FEATURE 0x0c0b0a09u
 
 /* Bits of doubles that are easily lost: a NaN with a payload, minus zero, the least number above zero, minus infinity. */
 static const uint64_t unusual[] = {0x7ff8000000c0ffee, 0x8000000000000000, 1, 0xfff0000000000000};
@@ -41,9 +44,9 @@ static void check_numbers(void)
     check("a float of low bits", bintolage_bits_of_float(bintolage_float_of(0x123456787fc0ffee)) == 0x7fc0ffee);
 }
 
-static int says(bintolage_event_fields e, int kind, int tagged, uint32_t size, uint32_t idx)
+static int says(bintolage_event_fields e, uint32_t feature, int kind, int tagged, uint32_t size, uint32_t idx)
 {
-    return e.kind == kind && e.tagged == tagged && e.size == size && e.idx == idx;
+    return e.feature == feature && e.kind == kind && e.tagged == tagged && e.size == size && e.idx == idx;
 }
 
 static int is_bare(bintolage_event_fields e)
@@ -55,21 +58,25 @@ static int is_bare(bintolage_event_fields e)
 static void check_frames(void)
 {
     for (uint8_t type = 1; type <= BINTOLAGE_TRIANGLE; type++) {
-        const bintolage_event_record begin = bintolage_begin(type, 255, MOST, MOST - 1);
-        const bintolage_event_record end = bintolage_end(type, 1, MOST);
-        const bintolage_event_record bare = bintolage_begin(type, 0, 0, 0);
-        check("a begin", says(bintolage_event_of(&begin), type, 1, MOST, MOST - 1) && is_bare(bintolage_event_of(&begin)));
-        check("an end", says(bintolage_event_of(&end), type + 32, 1, 0, MOST) && is_bare(bintolage_event_of(&end)));
-        check("a bare begin", says(bintolage_event_of(&bare), type, 0, 0, 0) && is_bare(bintolage_event_of(&bare)));
+        const bintolage_event_record begin = bintolage_begin(FEATURE, type, 255, MOST, MOST - 1);
+        const bintolage_event_record end = bintolage_end(MOST - 2, type, 1, MOST);
+        const bintolage_event_record bare = bintolage_begin(0, type, 0, 0, 0);
+        const bintolage_event_fields b = bintolage_event_of(&begin), e = bintolage_event_of(&end);
+        const bintolage_event_fields zero = bintolage_event_of(&bare);
+        check("a begin", says(b, FEATURE, type, 1, MOST, MOST - 1) && is_bare(b));
+        check("an end", says(e, MOST - 2, type + 32, 1, 0, MOST) && is_bare(e));
+        check("a bare begin", says(zero, 0, type, 0, 0, 0) && is_bare(zero));
+        check("a begin's feature", bintolage_feature_of(&begin) == FEATURE && bintolage_feature_of(&bare) == 0);
+        check("an end's feature", bintolage_feature_of(&end) == MOST - 2);
     }
 }
 
 static void check_pairs(void)
 {
     for (int i = 0; i < 4; i++) {
-        const bintolage_event_record record = bintolage_xy(unusual_double(i), unusual_double(i + 1), MOST);
+        const bintolage_event_record record = bintolage_xy(FEATURE, unusual_double(i), unusual_double(i + 1), MOST);
         const bintolage_event_fields e = bintolage_event_of(&record);
-        check("a pair", says(e, 64, 0, 0, MOST) && is_unusual(e.x, i) && is_unusual(e.y, i + 1));
+        check("a pair", says(e, FEATURE, 64, 0, 0, MOST) && is_unusual(e.x, i) && is_unusual(e.y, i + 1));
         check("a pair alone", e.present == 0 && e.tm == 0 && bintolage_bits_of(e.z) == 0);
     }
 }
@@ -83,10 +90,11 @@ static void check_coordinates(void)
 {
     for (int present = 0; present < 16; present++) {
         const bintolage_event_record record = bintolage_coordinate(
-            unusual_double(1), unusual_double(0), (uint8_t)present, unusual_double(0), unusual_double(1), unusual_double(2),
-            UINT64_MAX - 1, MOST);
+            FEATURE, unusual_double(1), unusual_double(0), (uint8_t)present, unusual_double(0), unusual_double(1),
+            unusual_double(2), UINT64_MAX - 1, MOST);
         const bintolage_event_fields e = bintolage_event_of(&record);
-        check("a coordinate", says(e, 65, 0, 0, MOST) && e.present == present && is_unusual(e.x, 1) && is_unusual(e.y, 0));
+        check("a coordinate", says(e, FEATURE, 65, 0, 0, MOST) && e.present == present);
+        check("its pair", is_unusual(e.x, 1) && is_unusual(e.y, 0));
         check("its z", is_unusual_or_zero(e.z, 0, present & BINTOLAGE_Z));
         check("its m", is_unusual_or_zero(e.m, 1, present & BINTOLAGE_M));
         check("its t", is_unusual_or_zero(e.t, 2, present & BINTOLAGE_T));
@@ -97,10 +105,10 @@ static void check_coordinates(void)
 /* The bytes themselves, each in its place: builders and readers that were wrong alike would agree with one another. */
 static void check_bytes(void)
 {
-    const bintolage_event_record begin = bintolage_begin(3, 1, 0x04030201, 0x08070605);
-    const bintolage_event_record at = bintolage_coordinate(-0.0, 1, 15, 1.5, -2, 0.5, 0x0807060504030201, 9);
-    static const uint8_t frame[64] = {3, 1, 0, 0, 1, 2, 3, 4, 5, 6, 7, 8};
-    static const uint8_t point[64] = {65, 0, 15, 0, 0, 0, 0, 0, 9, 0, 0, 0, 0, 0, 0, 0, 0, 0, 0, 0, 0, 0,
+    const bintolage_event_record begin = bintolage_begin(FEATURE, 3, 1, 0x04030201, 0x08070605);
+    const bintolage_event_record at = bintolage_coordinate(MOST, -0.0, 1, 15, 1.5, -2, 0.5, 0x0807060504030201, 9);
+    static const uint8_t frame[64] = {3, 1, 0, 0, 1, 2, 3, 4, 5, 6, 7, 8, 9, 10, 11, 12};
+    static const uint8_t point[64] = {65, 0, 15, 0, 0, 0, 0, 0, 9, 0, 0, 0, 255, 255, 255, 255, 0, 0, 0, 0, 0, 0,
                                       0, 0x80, 0, 0, 0, 0, 0, 0, 0xf0, 0x3f, 0, 0, 0, 0, 0, 0, 0xf8, 0x3f, 0, 0, 0, 0,
                                       0, 0, 0, 0xc0, 0, 0, 0, 0, 0, 0, 0xe0, 0x3f, 1, 2, 3, 4, 5, 6, 7, 8};
     check("a begin's bytes", memcmp(begin.bytes, frame, 64) == 0);
@@ -138,8 +146,10 @@ static void make_every_call(const bintolage_memory *memory, uint8_t answers[ANSW
 {
     static const uint8_t two[] = {BINTOLAGE_COLUMN_INT, BINTOLAGE_COLUMN_STRING};
     const bintolage_event_record line[] = {
-        bintolage_begin(BINTOLAGE_MULTI_LINE_STRING, 0, 1, 0), bintolage_begin(BINTOLAGE_LINE_STRING, 0, 1, 0),
-        bintolage_coordinate(1, 2, 15, 3, 4, 5, 6, 0), bintolage_end(BINTOLAGE_LINE_STRING, 0, 0)};
+        bintolage_begin(FEATURE, BINTOLAGE_MULTI_LINE_STRING, 0, 1, 0),
+        bintolage_begin(FEATURE, BINTOLAGE_LINE_STRING, 0, 1, 0),
+        bintolage_coordinate(FEATURE, 1, 2, 15, 3, 4, 5, 6, 0),
+        bintolage_end(FEATURE, BINTOLAGE_LINE_STRING, 0, 0)};
     bintolage_event_record log[8];
     bintolage_value_record values[2];
     bintolage_edges edges;
@@ -157,7 +167,7 @@ static void make_every_call(const bintolage_memory *memory, uint8_t answers[ANSW
     answers[5] = bintolage_read_values(&state, memory, two, 2, values, 2, &count);
     answers[6] = (uint8_t)count;
     answers[7] = bintolage_finish_feature(&state, memory);
-    answers[8] = bintolage_read_feature(memory, BINTOLAGE_MULTI_LINE_STRING, 15, log, 8, &count);
+    answers[8] = bintolage_read_feature(memory, BINTOLAGE_MULTI_LINE_STRING, 15, FEATURE, log, 8, &count);
     answers[9] = (uint8_t)count;
     answers[10] = bintolage_read_box(memory, 0, &edges);
     answers[11] = bintolage_next_feature(&state, memory);
@@ -194,7 +204,7 @@ static void check_answers(void)
     check("pairs and ends in their lists", xy[0] == bintolage_bits_of(1) && xy[1] == bintolage_bits_of(2) && ends[0] == 1);
     check("values in their lists", z[0] == bintolage_bits_of(3) && m[0] == bintolage_bits_of(4));
     check("times in their lists", t[0] == bintolage_bits_of(5) && tm[0] == 6);
-    check("a null log", bintolage_read_feature(&all, 5, 0, NULL, 3, &count) == BINTOLAGE_LOG_FULL && count == 0);
+    check("a null log", bintolage_read_feature(&all, 5, 0, 0, NULL, 3, &count) == BINTOLAGE_LOG_FULL && count == 0);
     bintolage_start(&state, 0, 0, 0);
     check("no events", bintolage_give_many(&state, &all, NULL, 3, &taken) == BINTOLAGE_DONE && taken == 0);
     check("no text", bintolage_give_text(&state, &all, 0, BINTOLAGE_COLUMN_STRING, NULL, 3) == BINTOLAGE_DONE);
@@ -222,9 +232,9 @@ static int is_beginning(bintolage_edges box)
 static void check_reading(void)
 {
     const bintolage_event_record given[] = {
-        bintolage_begin(BINTOLAGE_GEOMETRY_COLLECTION, 0, 1, 0), bintolage_begin(BINTOLAGE_POINT, 0, 0, 0),
-        bintolage_xy(-7.5, unusual_double(1), 0), bintolage_end(BINTOLAGE_POINT, 0, 0),
-        bintolage_end(BINTOLAGE_GEOMETRY_COLLECTION, 0, 0)};
+        bintolage_begin(FEATURE, BINTOLAGE_GEOMETRY_COLLECTION, 0, 1, 0), bintolage_begin(FEATURE, BINTOLAGE_POINT, 0, 0, 0),
+        bintolage_xy(FEATURE, -7.5, unusual_double(1), 0), bintolage_end(FEATURE, BINTOLAGE_POINT, 0, 0),
+        bintolage_end(FEATURE, BINTOLAGE_GEOMETRY_COLLECTION, 0, 0)};
     uint8_t bytes[1 + sizeof given];
     bintolage_event_record *log = (bintolage_event_record *)(bytes + 1);
     bintolage_edges box;
@@ -235,12 +245,64 @@ static void check_reading(void)
     check("events given", bintolage_give_many(&state, &all, given, 5, &taken) == BINTOLAGE_DONE && taken == 5);
     check("a part", bintolage_parts(&state) == 1);
     check("a feature finished", bintolage_finish_feature(&state, &all) == BINTOLAGE_DONE);
-    check("a feature read", bintolage_read_feature(&all, BINTOLAGE_GEOMETRY_COLLECTION, 0, log, 5, &count) == BINTOLAGE_DONE);
+    check("a feature read",
+          bintolage_read_feature(&all, BINTOLAGE_GEOMETRY_COLLECTION, 0, FEATURE, log, 5, &count) == BINTOLAGE_DONE);
     check("its events", count == 5);
     check("the events that were given", memcmp(log, given, sizeof given) == 0);
     check("a part's box", bintolage_read_box(&all, 1, &box) == BINTOLAGE_DONE && is_box(box, -7.5, -0.0, -7.5, -0.0));
     check("the feature's box", bintolage_read_box(&all, 0, &box) == BINTOLAGE_DONE && is_box(box, -7.5, -0.0, -7.5, -0.0));
     check("no such record", bintolage_read_box(&all, 4, &box) == BINTOLAGE_BAD_RECORD && is_beginning(box));
+}
+
+static int holds(const bintolage_state *state, uint8_t has, uint32_t feature)
+{
+    return bintolage_has_feature(state) == has && bintolage_feature(state) == feature;
+}
+
+/* The number that a writer holds, from a feature's first event that is taken to its next. */
+static void check_held(uint32_t feature)
+{
+    const bintolage_event_record given = bintolage_xy(feature, 1, 2, 0), stray = bintolage_xy(feature + 1, 1, 2, 0);
+    bintolage_state state, before;
+    bintolage_start(&state, 0, 0, 0);
+    check("no number at first", holds(&state, 0, 0));
+    check("a malformed event", bintolage_give(&state, &all, bintolage_begin(feature, 0, 0, 0, 0)) == BINTOLAGE_MALFORMED);
+    check("a refused event sets none", holds(&state, 0, 0));
+    check("a first event", bintolage_give(&state, &all, given) == BINTOLAGE_DONE && holds(&state, 1, feature));
+    before = state;
+    check("an event of another feature", bintolage_give(&state, &all, stray) == BINTOLAGE_OTHER_FEATURE);
+    check("which changes no state", memcmp(&state, &before, sizeof state) == 0);
+    check("an event of the same", bintolage_give(&state, &all, given) == BINTOLAGE_DONE);
+    check("a finish keeps it", bintolage_finish_feature(&state, &all) == BINTOLAGE_DONE && holds(&state, 1, feature));
+    check("a next lets it go", bintolage_next_feature(&state, &all) == BINTOLAGE_DONE && holds(&state, 0, 0));
+    check("another feature", bintolage_give(&state, &all, stray) == BINTOLAGE_DONE && holds(&state, 1, feature + 1));
+    state.words[0] &= ~(8u << 24);
+    check("without its mark no number is held", holds(&state, 0, 0));
+}
+
+/* A place read three times into one log, under three numbers, each behind the last. */
+static void check_log(void)
+{
+    static const uint32_t features[] = {MOST, 0, FEATURE};
+    const bintolage_event_record given[] = {
+        bintolage_begin(1, BINTOLAGE_POINT, 0, 0, 0), bintolage_xy(1, -7.5, 3, 0), bintolage_end(1, BINTOLAGE_POINT, 0, 0)};
+    bintolage_event_record log[9];
+    bintolage_state state;
+    uint32_t count = 0, used = 0;
+    size_t taken = 0;
+    bintolage_start(&state, BINTOLAGE_POINT, 0, 0);
+    check("a place given", bintolage_give_many(&state, &all, given, 3, &taken) == BINTOLAGE_DONE);
+    check("a place finished", bintolage_finish_feature(&state, &all) == BINTOLAGE_DONE);
+    for (int i = 0; i < 3; i++) {
+        const uint8_t answer = bintolage_read_feature(&all, BINTOLAGE_POINT, 0, features[i], log + used, 9 - used, &count);
+        check("a place read behind others", answer == BINTOLAGE_DONE && count == 3);
+        used += count;
+    }
+    for (int i = 0; i < 9; i++) {
+        check("its number", bintolage_feature_of(&log[i]) == features[i / 3]);
+        bintolage_put32(log[i].bytes + 12, 1);
+        check("all else as it was given", memcmp(&log[i], &given[i % 3], sizeof log[i]) == 0);
+    }
 }
 
 /* One level more than there may be. */
@@ -346,8 +408,8 @@ static void check_words(void)
     static const char unknown[] = "a number that no call answers";
     for (int number = 0; number < 256; number++) {
         const char *words = bintolage_refusal((uint8_t)number);
-        check("words", words[0] != 0 && (strcmp(words, unknown) == 0) == (number > 16));
-        for (int other = 0; other < number && number < 17; other++) {
+        check("words", words[0] != 0 && (strcmp(words, unknown) == 0) == (number > 17));
+        for (int other = 0; other < number && number < 18; other++) {
             check("words of its own", strcmp(words, bintolage_refusal((uint8_t)other)) != 0);
         }
     }
@@ -364,6 +426,10 @@ int main(void)
     check_nulls();
     check_answers();
     check_reading();
+    check_held(0);
+    check_held(FEATURE);
+    check_held(MOST);
+    check_log();
     check_boxes();
     check_values();
     check_types();

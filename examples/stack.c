@@ -36,7 +36,7 @@ static void take_many(void) { bintolage_events(&state, event, sizeof event, tabl
 static void property(void) { bintolage_property(&state, 0, BINTOLAGE_COLUMN_STRING, 0, text, sizeof text, buffer, sizeof buffer); }
 static void finish(void) { bintolage_finish(&state, table, sizeof table, POOLS); }
 static void next(void) { bintolage_next(&state, table, sizeof table, POOLS); }
-static void read_tree(void) { bintolage_read(table, sizeof table, POOLS, 0, 15, records, sizeof records, &count); }
+static void read_tree(void) { bintolage_read(table, sizeof table, POOLS, 0, 15, 7, records, sizeof records, &count); }
 static void read_properties(void)
 {
     bintolage_read_properties(buffer, state.words[2], 1, columns, sizeof columns, BINTOLAGE_NO_STOP, records, sizeof records,
@@ -138,16 +138,17 @@ static long deepest_box(void)
     return most;
 }
 
-/* Every kind of event, taken in a collection, so that an end finishes a part. */
+/* Every kind of event, of the feature in hand and of another, taken in a collection, so that an end finishes a part. */
 static long deepest_event(void (*made)(void))
 {
     long most = 0;
-    for (int kind = 0; kind < 256; kind++) {
+    for (int i = 0; i < 2 * 256; i++) {
         bintolage_start(&state, BINTOLAGE_GEOMETRY_COLLECTION, 0, 0);
         memset(event, 0, sizeof event);
         event[0] = BINTOLAGE_GEOMETRY_COLLECTION;
         take();
-        event[0] = (uint8_t)kind;
+        event[0] = (uint8_t)(i / 2);
+        bintolage_put32(event + 12, (uint32_t)(i % 2));
         long d = depth(made);
         most = d > most ? d : most;
     }

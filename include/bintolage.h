@@ -19,18 +19,20 @@
  *     bintolage_event_record log[4];
  *     uint32_t count;
  *     bintolage_state state;
+ *     const uint32_t run = 7;
  *     bintolage_start(&state, BINTOLAGE_LINE_STRING, 0, 0);
- *     must(bintolage_give(&state, &memory, bintolage_begin(BINTOLAGE_LINE_STRING, 1, 2, 0)));
- *     must(bintolage_give(&state, &memory, bintolage_xy(350, 200, 0)));
- *     must(bintolage_give(&state, &memory, bintolage_xy(350, 20.5, 1)));
- *     must(bintolage_give(&state, &memory, bintolage_end(BINTOLAGE_LINE_STRING, 1, 0)));
+ *     must(bintolage_give(&state, &memory, bintolage_begin(run, BINTOLAGE_LINE_STRING, 1, 2, 0)));
+ *     must(bintolage_give(&state, &memory, bintolage_xy(run, 350, 200, 0)));
+ *     must(bintolage_give(&state, &memory, bintolage_xy(run, 350, 20.5, 1)));
+ *     must(bintolage_give(&state, &memory, bintolage_end(run, BINTOLAGE_LINE_STRING, 1, 0)));
  *     must(bintolage_finish_feature(&state, &memory));
- *     must(bintolage_read_feature(&memory, BINTOLAGE_LINE_STRING, 0, log, 4, &count));
+ *     must(bintolage_read_feature(&memory, BINTOLAGE_LINE_STRING, 0, run, log, 4, &count));
  *     must(bintolage_next_feature(&state, &memory));
  *
- * `log` has the four events again. must() is the program's own: it looks at each answer, which is 0 or a refusal, and
- * bintolage_refusal has it in words. The calls that are proved come first in this file, each list as two arguments; behind
- * them, FOR A C PROGRAM, stands a thin layer of inline functions over them, in which the lines above are written.
+ * `log` has the four events again. `run` is the feature's number, which is the program's to choose. must() is the program's
+ * own: it looks at each answer, which is 0 or a refusal, and bintolage_refusal has it in words. The calls that are proved
+ * come first in this file, each list as two arguments; behind them, FOR A C PROGRAM, stands a thin layer of inline functions
+ * over them, in which the lines above are written.
  *
  *
  * HOW MEMORY IS LENT
@@ -61,6 +63,17 @@
  * state says; of each pool the words up to start + count of its pending list (words 4 to 15); of the table the parts, at
  * records 1 to word 1, and record 0 while a finished feature waits. All else in the lent memory is free to change. Memory
  * may be lent at another address, or longer, at each call; lent shorter than what is used, a call answers 12.
+ *
+ *
+ * SEVERAL FEATURES IN ONE LOG
+ *
+ * Every event has the number of its feature. The caller chooses it, and any number will do, 0 too. A reading is given a
+ * number and says it in every record. So features that are read one after the other, each into what is left of the log, stay
+ * apart in it, and a feature is found again by its number.
+ *
+ * The writer holds the number of the feature in hand. The first event that is taken sets it, and an event of another number
+ * is then refused (17); a refused event never sets it. The number is held until bintolage_next lets it go. A property,
+ * bintolage_finish and bintolage_next do not look at it.
  */
 #ifndef BINTOLAGE_H
 #define BINTOLAGE_H
@@ -100,8 +113,9 @@ extern "C" {
 #define BINTOLAGE_VALUE_CUT       14  /* read_properties: the bytes end within a value */
 #define BINTOLAGE_NOT_ITS_TURN    15  /* event, property, finish: a finished feature waits for next; next: none waits */
 #define BINTOLAGE_COLUMN_TOO_LARGE 16 /* property: a column above 65,535 */
+#define BINTOLAGE_OTHER_FEATURE   17  /* event: its feature's number is not the one that is held */
 
-/* Where several refusals are due, the first of these is given: event 11, 15, 5, 12; property 15, 16, 11, 6, 12;
+/* Where several refusals are due, the first of these is given: event 11, 15, 17, 5, 12; property 15, 16, 11, 6, 12;
  * finish and next 15, 12; read and box, on entering a geometry, 13, 10; read_properties, at each property, 2, 14, 6, 9. */
 
 /*
@@ -190,7 +204,7 @@ extern "C" {
  *     3      spare
  *     4..7   size, how many lines, rings, pairs or parts follow: every begin but Point's
  *     8..11  idx, its number within what holds it: every kind
- *    12..15  spare
+ *    12..15  feature, the number of the feature that it is of: every kind, and any number
  *    16 x   24 y                     kinds 64 and 65
  *    32 z   40 m   48 t   56 tm      kind 65, where its present bit is set
  * A field that the kind does not use, and a value whose present bit is not set, is zero. A record that breaks any of this,
@@ -222,12 +236,13 @@ extern "C" {
  * THE WRITER'S STATE
  *
  * Words that the caller keeps and lends to every writing call. They may be copied, stored and sent.
- *     0       declared type + 256 * current type + 65536 * mode + 2^24 * (detect 1, promote 2, waiting 4)
+ *     0       declared type + 256 * current type + 65536 * mode + 2^24 * (detect 1, promote 2, waiting 4, a number held 8)
  *     1       how many parts the feature has
  *     2       how many property bytes it has
- *     3       spare, written as 0
+ *     3       the feature's number that is held, 0 where none is
  *     4..15   start and count of the pending list in each pool: xy, ends, z, m, t, tm
- * Any words are accepted as a state; spare bits are not looked at. On a refusal they stay as they were, bit for bit. The
+ * Any words are accepted as a state. Where word 0 says that no number is held, word 3 is not looked at, and the top four
+ * bits of word 0 never are; a call that is done writes them as 0. On a refusal the words stay as they were, bit for bit. The
  * property bytes of a feature, of which the caller wants the length, are the first words[2] of the buffer.
  */
 #define BINTOLAGE_STATE_WORDS        16
@@ -244,7 +259,7 @@ typedef struct bintolage_state {
 void bintolage_start(bintolage_state *state, uint8_t declared, uint8_t detect, uint8_t promote);
 
 /*
- * Takes one event record. Refused: 11, 15, 5, 12.
+ * Takes one event record. Refused: 11, 15, 17, 5, 12.
  */
 uint8_t bintolage_event(
     bintolage_state *state,
@@ -261,7 +276,7 @@ uint8_t bintolage_event(
  * Takes event records one after the other, as bintolage_event takes each, until one is refused: *taken is how many were
  * taken, and the answer says why the next was not, or 0 where all were. Those that were taken stay; the refused one changes
  * nothing. Bytes at the end that are no whole record are refused with 11. Many events in one call take a fraction of the
- * time of a call for each.
+ * time of a call for each. Refused: 11, 15, 17, 5, 12.
  */
 uint8_t bintolage_events(
     bintolage_state *state,
@@ -302,7 +317,7 @@ uint8_t bintolage_finish(
 
 /*
  * Leaves the finished feature behind. What is still pending moves to the front of its pool and belongs to the next
- * feature; declared type, current type and mode stay. Refused: 15, 12.
+ * feature; declared type, current type and mode stay, and the feature's number is let go. Refused: 15, 12.
  */
 uint8_t bintolage_next(
     bintolage_state *state,
@@ -318,7 +333,8 @@ uint8_t bintolage_next(
  * Reads the tree whose root is record 0, as event records from the start of `log`, and says in `count` how many, refused
  * or not. `declared` is the type to read the root under, 0 for its own. `flags` says which of z, m, t and tm are wanted, by
  * the present bits of an event; higher bits are not looked at. With no flag every pair is kind 64, with any it is kind 65.
- * The table must have a whole number of records. Refused: 1, 2, 3, 4, 7, 8, 9, 10, 13.
+ * `feature` is the number that every record says, and changes nothing else; what was written has none of its own. The table
+ * must have a whole number of records. Refused: 1, 2, 3, 4, 7, 8, 9, 10, 13.
  */
 uint8_t bintolage_read(
     const uint8_t *table, size_t table_bytes,
@@ -328,7 +344,7 @@ uint8_t bintolage_read(
     const uint64_t *m, size_t m_words,
     const uint64_t *t, size_t t_words,
     const uint64_t *tm, size_t tm_words,
-    uint8_t declared, uint8_t flags,
+    uint8_t declared, uint8_t flags, uint32_t feature,
     uint8_t *log, size_t log_bytes,
     uint32_t *count);
 
@@ -380,10 +396,11 @@ uint8_t bintolage_box(
  * byte order and any address will do. A double is IEEE 754's of 64 bits.
  *
  *     a record of an event       bintolage_begin, bintolage_end, bintolage_xy, bintolage_coordinate
- *     what a record says         bintolage_event_of, bintolage_value_of
+ *     what a record says         bintolage_event_of, bintolage_feature_of, bintolage_value_of
  *     a feature written          bintolage_start, then bintolage_give, bintolage_give_many, bintolage_give_number,
  *                                bintolage_give_text, bintolage_finish_feature, bintolage_next_feature
  *     a feature read             bintolage_read_feature, bintolage_read_values, bintolage_read_box
+ *     the feature in hand        bintolage_has_feature, bintolage_feature, bintolage_parts, bintolage_property_bytes
  *     an answer in words         bintolage_refusal
  */
 
@@ -483,30 +500,33 @@ static inline float bintolage_float_of(uint64_t bits)
 }
 
 /*
- * The record of a begin. `size` is how many lines, rings, pairs or parts follow, and 0 for a Point; `idx` is its number
- * within what holds it. `tagged` says of a LineString, Polygon or Triangle that it stands by itself or in a collection, 0
- * is no and all else yes; it is 0 for all other types. Other values make a record that is refused as malformed (11).
+ * The record of a begin. `feature` is the number of the feature that it is of, the same in all its events. `size` is how
+ * many lines, rings, pairs or parts follow, and 0 for a Point; `idx` is its number within what holds it. `tagged` says of a
+ * LineString, Polygon or Triangle that it stands by itself or in a collection, 0 is no and all else yes; it is 0 for all
+ * other types. Other values make a record that is refused as malformed (11).
  */
-static inline bintolage_event_record bintolage_begin(uint8_t geometry_type, uint8_t tagged, uint32_t size, uint32_t idx)
+static inline bintolage_event_record bintolage_begin(
+    uint32_t feature, uint8_t geometry_type, uint8_t tagged, uint32_t size, uint32_t idx)
 {
     bintolage_event_record record = {{0}};
     record.bytes[0] = geometry_type;
     record.bytes[1] = tagged != 0;
     bintolage_put32(record.bytes + 4, size);
     bintolage_put32(record.bytes + 8, idx);
+    bintolage_put32(record.bytes + 12, feature);
     return record;
 }
 
-/* The record of an end: its type, `tagged` and `idx` as its begin has them. */
-static inline bintolage_event_record bintolage_end(uint8_t geometry_type, uint8_t tagged, uint32_t idx)
+/* The record of an end: its feature, its type, `tagged` and `idx` as its begin has them. */
+static inline bintolage_event_record bintolage_end(uint32_t feature, uint8_t geometry_type, uint8_t tagged, uint32_t idx)
 {
-    return bintolage_begin((uint8_t)(geometry_type + BINTOLAGE_END), tagged, 0, idx);
+    return bintolage_begin(feature, (uint8_t)(geometry_type + BINTOLAGE_END), tagged, 0, idx);
 }
 
 /* The record of a pair. */
-static inline bintolage_event_record bintolage_xy(double x, double y, uint32_t idx)
+static inline bintolage_event_record bintolage_xy(uint32_t feature, double x, double y, uint32_t idx)
 {
-    bintolage_event_record record = bintolage_begin(BINTOLAGE_XY, 0, 0, idx);
+    bintolage_event_record record = bintolage_begin(feature, BINTOLAGE_XY, 0, 0, idx);
     bintolage_put64(record.bytes + 16, bintolage_bits_of(x));
     bintolage_put64(record.bytes + 24, bintolage_bits_of(y));
     return record;
@@ -517,9 +537,9 @@ static inline bintolage_event_record bintolage_xy(double x, double y, uint32_t i
  * not looked at; a bit of `present` beyond the four makes a record that is refused as malformed (11).
  */
 static inline bintolage_event_record bintolage_coordinate(
-    double x, double y, uint8_t present, double z, double m, double t, uint64_t tm, uint32_t idx)
+    uint32_t feature, double x, double y, uint8_t present, double z, double m, double t, uint64_t tm, uint32_t idx)
 {
-    bintolage_event_record record = bintolage_xy(x, y, idx);
+    bintolage_event_record record = bintolage_xy(feature, x, y, idx);
     record.bytes[0] = BINTOLAGE_COORDINATE;
     record.bytes[2] = present;
     bintolage_put64(record.bytes + 32, present & BINTOLAGE_Z ? bintolage_bits_of(z) : 0);
@@ -536,6 +556,7 @@ typedef struct bintolage_event_fields {
     uint8_t present;
     uint32_t size;
     uint32_t idx;
+    uint32_t feature;
     double x, y, z, m, t;
     uint64_t tm;
 } bintolage_event_fields;
@@ -549,6 +570,7 @@ static inline bintolage_event_fields bintolage_event_of(const bintolage_event_re
     fields.present = bytes[2];
     fields.size = bintolage_get32(bytes + 4);
     fields.idx = bintolage_get32(bytes + 8);
+    fields.feature = bintolage_get32(bytes + 12);
     fields.x = bintolage_double_of(bintolage_get64(bytes + 16));
     fields.y = bintolage_double_of(bintolage_get64(bytes + 24));
     fields.z = bintolage_double_of(bintolage_get64(bytes + 32));
@@ -556,6 +578,12 @@ static inline bintolage_event_fields bintolage_event_of(const bintolage_event_re
     fields.t = bintolage_double_of(bintolage_get64(bytes + 48));
     fields.tm = bintolage_get64(bytes + 56);
     return fields;
+}
+
+/* The number of the feature that an event record is of, by itself: by it a feature is found in a log that has several. */
+static inline uint32_t bintolage_feature_of(const bintolage_event_record *record)
+{
+    return bintolage_get32(record->bytes + 12);
 }
 
 /*
@@ -581,7 +609,18 @@ static inline bintolage_value_fields bintolage_value_of(const bintolage_value_re
     return fields;
 }
 
-/* How many parts the feature in hand has, and how many property bytes. */
+/* Whether a number is held for the feature in hand, 1 or 0; and which, 0 where none is. */
+static inline uint8_t bintolage_has_feature(const bintolage_state *state)
+{
+    return (uint8_t)(state->words[0] >> 27 & 1);
+}
+
+static inline uint32_t bintolage_feature(const bintolage_state *state)
+{
+    return bintolage_has_feature(state) ? state->words[3] : 0;
+}
+
+/* How many parts it has, and how many property bytes. */
 static inline uint32_t bintolage_parts(const bintolage_state *state)
 {
     return state->words[1];
@@ -613,7 +652,7 @@ static inline bintolage_memory bintolage_without_nulls(const bintolage_memory *m
     (lent).table, (lent).table_bytes, (lent).xy, (lent).xy_words, (lent).ends, (lent).ends_words, (lent).z, (lent).z_words, \
     (lent).m, (lent).m_words, (lent).t, (lent).t_words, (lent).tm, (lent).tm_words
 
-/* Gives the writer one event. Refused: 11, 15, 5, 12. */
+/* Gives the writer one event. Refused: 11, 15, 17, 5, 12. */
 static inline uint8_t bintolage_give(bintolage_state *state, const bintolage_memory *memory, bintolage_event_record event)
 {
     uint64_t nothing = 0;
@@ -623,7 +662,7 @@ static inline uint8_t bintolage_give(bintolage_state *state, const bintolage_mem
 
 /*
  * Gives the writer `count` events one after the other, until one is refused: *taken is how many were taken, refused or
- * not. Refused: 11, 15, 5, 12.
+ * not. Refused: 11, 15, 17, 5, 12.
  */
 static inline uint8_t bintolage_give_many(
     bintolage_state *state, const bintolage_memory *memory,
@@ -685,17 +724,19 @@ static inline uint8_t bintolage_next_feature(bintolage_state *state, const binto
 
 /*
  * Reads the tree whose root is record 0 as events, into the `log_records` records of `log`, and says in *count how many,
- * refused or not; `declared` and `flags` as for bintolage_read. Refused: 1, 2, 3, 4, 7, 8, 9, 10, 13.
+ * refused or not; `declared`, `flags` and `feature` as for bintolage_read. A log that has records already takes more behind
+ * them: log + used, log_records - used. Refused: 1, 2, 3, 4, 7, 8, 9, 10, 13.
  */
 static inline uint8_t bintolage_read_feature(
-    const bintolage_memory *memory, uint8_t declared, uint8_t flags,
+    const bintolage_memory *memory, uint8_t declared, uint8_t flags, uint32_t feature,
     bintolage_event_record *log, size_t log_records,
     uint32_t *count)
 {
     uint64_t nothing = 0;
     const bintolage_memory lent = bintolage_without_nulls(memory, &nothing);
     uint8_t *bytes = log ? (uint8_t *)log : (uint8_t *)&nothing;
-    return bintolage_read(BINTOLAGE_LISTS(lent), declared, flags, bytes, log ? log_records * sizeof *log : 0, count);
+    return bintolage_read(
+        BINTOLAGE_LISTS(lent), declared, flags, feature, bytes, log ? log_records * sizeof *log : 0, count);
 }
 
 /*
@@ -768,6 +809,7 @@ static inline const char *bintolage_refusal(uint8_t number)
     case BINTOLAGE_VALUE_CUT: return "a property value cut short";
     case BINTOLAGE_NOT_ITS_TURN: return "not its turn";
     case BINTOLAGE_COLUMN_TOO_LARGE: return "column number above 65,535";
+    case BINTOLAGE_OTHER_FEATURE: return "an event of another feature";
     default: return "a number that no call answers";
     }
 }

@@ -1,6 +1,6 @@
 //! Features as event records (SPEC 3.2), property values, and trees whose records share parts.
 use geozero::GeomProcessor;
-use original::events::Log;
+use original::events::{put_feature, Log};
 use original::tree::{put_list, Store, MOST_LEVELS};
 use std::ops::Range;
 
@@ -10,6 +10,9 @@ pub const INT: u8 = 5;
 pub const STRING: u8 = 11;
 /// z and m, of an event's present bits.
 pub const Z_AND_M: u8 = 3;
+
+/// The number of every feature. The crate knows none, and says 0 in its place.
+pub const FEATURE: u32 = 0x0403_0201;
 
 /// A feature: its type, the flags that it is read with, and its events.
 pub struct Feature {
@@ -23,6 +26,7 @@ const ROOM: usize = 1 << 20;
 fn feature(declared: u8, flags: u8, say: impl FnOnce(&mut Log) -> geozero::error::Result<()>) -> Feature {
     let mut log = Log::new(flags, ROOM);
     say(&mut log).expect("the log has room");
+    put_feature(&mut log.bytes, FEATURE);
     Feature { declared, flags, events: log.bytes }
 }
 

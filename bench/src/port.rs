@@ -68,10 +68,10 @@ impl Port {
         bare::next(&mut self.state, &mut self.lists.lend())
     }
 
-    /// The finished tree, and how many records of events it gives.
-    pub fn read(&mut self, declared: u8, flags: u8, log: &mut [u8]) -> usize {
+    /// The finished tree, read under a feature's number, and how many records of events it gives.
+    pub fn read(&mut self, declared: u8, flags: u8, feature: u32, log: &mut [u8]) -> usize {
         let mut count = 0;
-        let number = bare::read(self.lists.lend().tree(), declared, flags, log, &mut count);
+        let number = bare::read(self.lists.lend().tree(), declared, flags, feature, log, &mut count);
         assert_eq!(number, 0, "a tree is read");
         count as usize
     }

@@ -1,9 +1,9 @@
 //! What is timed. Each row first sees that both sides give the same.
-use crate::inputs::{Feature, Values};
+use crate::inputs::{Feature, Values, FEATURE};
 use crate::port::{self, Port};
 use crate::timing::{least, timed, Rounds, Times};
 use geozero::{ColumnValue, FeatureProperties, PropertyProcessor};
-use original::events::{give, Log};
+use original::events::{give, put_feature, Log};
 use original::feature_writer::{peek, FeatureWriter};
 use original::geometry_reader::read_geometry;
 use original::header_generated::GeometryType;
@@ -87,7 +87,8 @@ pub fn read(rounds: Rounds, feature: &Feature) -> Times {
     let mut events = Log::new(feature.flags, feature.events.len() / EVENT);
     let mut log = vec![0; feature.events.len()];
     read_geometry(&mut events, &geometry, declared).expect("the tree is read");
-    memory.read(feature.declared, feature.flags, &mut log);
+    memory.read(feature.declared, feature.flags, FEATURE, &mut log);
+    put_feature(&mut events.bytes, FEATURE);
     assert!(events.bytes == feature.events && log == feature.events, "both sides read what was written");
     let rust = || {
         events.bytes.clear();
@@ -95,7 +96,7 @@ pub fn read(rounds: Rounds, feature: &Feature) -> Times {
     };
     let port = || {
         timed(|| {
-            black_box(memory.read(feature.declared, feature.flags, black_box(&mut log)));
+            black_box(memory.read(feature.declared, feature.flags, FEATURE, black_box(&mut log)));
         })
     };
     least(rounds, feature.events.len(), rust, port)

@@ -9,8 +9,8 @@ import re, struct
 HEARD, SAID, RECORD, BOX, READ, WRITTEN, WHOLE, CUT, BAD, LARGE = range(10)
 TREE = WHOLE
 
-# What a case of crates/writer_cases calls.
-START, EVENT, EVENTS, PROPERTY, FINISH, NEXT = range(6)
+# What a case of crates/writer_cases calls; with the last it calls nothing, and hands the state over in other words.
+START, EVENT, EVENTS, PROPERTY, FINISH, NEXT, WORDS = range(7)
 
 
 def number(n):

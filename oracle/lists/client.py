@@ -1,4 +1,8 @@
-"""A client of the oracle's protocol, and SPEC's records for it."""
+"""A client of the oracle's protocol, and SPEC's records for it.
+
+The crate's Rust knows no feature numbers: it is asked with the four bytes of each event's number as zeros, and what it answers gets the
+number put in.
+"""
 import collections, struct, subprocess
 
 UNKNOWN = 255
@@ -11,8 +15,18 @@ def bits(double):
     return struct.unpack("<Q", struct.pack("<d", double))[0]
 
 
-def ev(kind, tagged=0, size=0, idx=0, present=0, x=0, y=0, z=0, m=0, t=0, tm=0):
-    return struct.pack("<BBBBIII6Q", kind, tagged, present, 0, size, idx, 0, x, y, z, m, t, tm)
+def ev(kind, tagged=0, size=0, idx=0, present=0, x=0, y=0, z=0, m=0, t=0, tm=0, feature=0):
+    return struct.pack("<BBBBIII6Q", kind, tagged, present, 0, size, idx, feature, x, y, z, m, t, tm)
+
+
+def feature_of(event):
+    """The number of the feature that an event is of. What is too short to have one has 0."""
+    return struct.unpack_from("<I", event, 12)[0] if len(event) >= 16 else 0
+
+
+def under(feature, event):
+    """The event as one of that feature; what is too short to have a number stays as it is."""
+    return event[:12] + struct.pack("<I", feature) + event[16:] if len(event) >= 16 else event
 
 
 def xy(x, y, idx=0):
@@ -131,7 +145,7 @@ class Oracle:
         request = [b"W", bytes([declared, detect, promote]), struct.pack("<I", len(items))]
         for item in items:
             if isinstance(item, bytes):
-                request.append(b"\0" + packed(item))
+                request.append(b"\0" + packed(under(0, item)))
             elif item == FINISH:
                 request.append(b"\1")
             else:
@@ -146,9 +160,9 @@ class Oracle:
             states.append(answer.state())
         return Written(numbers, states, features, answer.state(), answer.store())
 
-    def read(self, tree, declared=0, flags=0):
+    def read(self, tree, declared=0, flags=0, feature=0):
         answer = self.ask(b"R" + bytes([declared, flags]) + tree.packed())
-        return Read(answer.byte(), answer.records(64), answer.bytes().decode())
+        return Read(answer.byte(), [under(feature, event) for event in answer.records(64)], answer.bytes().decode())
 
     def read_flatbuffer(self, raw, declared=0, flags=0, verified=1):
         """The reading, the tree's records, the property bytes."""

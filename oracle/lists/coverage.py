@@ -1,5 +1,6 @@
 """What the lists cover: every refusal, every type, every change of mode, every entry of docs/DIFFERENCES.md, and what is easily misread:
-calls with no event, bits above the flags, parts of which nothing is said, and boxes: each slip that boxes.py has must be told by a case.
+calls with no event, bits above the flags, parts of which nothing is said, the numbers of features (features.py has what is looked for),
+and boxes: each slip that boxes.py has must be told by a case.
 
     oracle/lists/coverage.py CRATES DIFFERENCES
 
@@ -7,16 +8,17 @@ Everything is found in the lists themselves, as the programs replay them. The an
 """
 import collections, struct, sys
 
-import differences
+import differences, features
 from boxes import ARC, SLIPS, Lent, Walk
-from cases import BOX, EVENT, EVENTS, FINISH, HEARD, NEXT, PROPERTY, READ, RECORD, SAID, START, TREE, WRITTEN, frames
-from client import store
+from cases import BOX, CUT, EVENT, EVENTS, FINISH, HEARD, LARGE, NEXT, PROPERTY, READ, RECORD, SAID, START, TREE, WHOLE, WRITTEN, frames
+from client import feature_of, store, under
 
 TYPES = set(range(1, 18)) - {13, 14}
 CHANGES = {(0, 1), (0, 2), (1, 0), (1, 2), (2, 0), (2, 1)}
 USABLE, NO_STOP, TOP = 65536, 65536, 2**32 - 1
-Call = collections.namedtuple("Call", "what number event state")
-Tree = collections.namedtuple("Tree", "declared flags lists events readings")
+FEATURES = (0, 1, 256, 65536, 2**24, TOP)
+Call = collections.namedtuple("Call", "what number taken lent event state marks third")
+Tree = collections.namedtuple("Tree", "declared flags feature lists events readings")
 Read = collections.namedtuple("Read", "number columns stop data values")
 Written = collections.namedtuple("Written", "number used column kind bits length text")
 Stored = collections.namedtuple("Stored", "sort number rest")
@@ -33,9 +35,9 @@ def rows(path):
     for case in frames(path):
         width, what, declared, current, mode, marks = case[:6]
         fields = struct.unpack_from("<28" + ("B" if width == 1 else "I"), case, 6)
-        parts, used, _, *pending = fields[11:26]
-        state = (declared, marks & 1, marks >> 1 & 1, current, mode, marks >> 2, parts, used, *pending)
-        call = Call(what, fields[0], case[6 + 28 * width + 8:], state)
+        parts, used, third, *pending = fields[11:26]
+        state = (declared, marks & 1, marks >> 1 & 1, current, mode, marks >> 2 & 1, parts, used, *pending)
+        call = Call(what, fields[0], fields[1], fields[3:11], case[6 + 28 * width + 8:], state, marks, third)
         if what == START:
             found.append([])
         found[-1].append(call)
@@ -53,9 +55,9 @@ def heads(descriptions):
 def trees(cases):
     for case in cases:
         row = numbers(case)
-        readings = [row[24 + 4 * i:28 + 4 * i] for i in range(row[23])]
-        *lists, events = heads(row[24 + 4 * row[23]:])
-        yield Tree(row[1], row[2], lists, events, readings)
+        readings = [row[25 + 4 * i:29 + 4 * i] for i in range(row[24])]
+        *lists, events = heads(row[25 + 4 * row[24]:])
+        yield Tree(*row[1:4], lists, events, readings)
 
 
 def lists_of(tree):
@@ -101,7 +103,7 @@ class Lists:
         self.trees = list(trees(of(TREE)))
         self.read, self.written = properties(of(READ, WRITTEN))
         self.boxes = list(boxes(of(BOX)))
-        self.store = [Stored(*numbers(case[:8]), case[8:]) for case in of(HEARD, SAID, RECORD, BOX)]
+        self.store = [Stored(*numbers(case[:8]), case[12 if case[0] == HEARD else 8:]) for case in of(HEARD, SAID, RECORD, BOX)]
         self.calls = [call for row in self.rows for call in row]
 
     def refusals(self):
@@ -127,7 +129,7 @@ class Lists:
         calls = list(differences.each_call(given.calls))
         roots = [(root["type"], len(root.get("parts") or ())) for root in given.trees]
         return any(start == row[0].state[:3]
-                   and calls == [(call.event if call.what == EVENT else call.what, call.number) for call in row[1:]]
+                   and calls == [(under(0, call.event) if call.what == EVENT else call.what, call.number) for call in row[1:]]
                    and roots == [(call.state[3], call.state[6]) for call in row if call.what == FINISH] for row in self.rows)
 
     def has_reading(self, given):
@@ -137,6 +139,16 @@ class Lists:
 
     def has_values(self, given):
         return Read(given.number, [given.column], NO_STOP, bytes.fromhex(given.data), given.values) in self.read
+
+    def numbers_heard(self, number):
+        return {feature_of(case.rest) for case in self.store if (case.sort, case.number) == (HEARD, number)}
+
+    def numbers_said(self):
+        return {feature_of(case.rest[24:88]) for case in self.store if (case.sort, case.number) == (SAID, 0)}
+
+    def numbers_read(self):
+        """With the sort of the reading, where an event was read."""
+        return {(sort, tree.feature) for tree in self.trees for sort, _, _, count in tree.readings if count}
 
     def tells(self, walk):
         """Whether a box has another answer in the list than this walk gives."""
@@ -185,6 +197,7 @@ ENTRIES = {
     "Events as 64-byte records.": lambda lists: all(lists.was_laid(HEARD, number) for number in (0, 11)),
     "Geometry records and tables.": lambda lists: all(lists.was_laid(RECORD, number) and lists.was_read(number) for number in (0, 10)),
     "Limits.": lambda lists: lists.was_called(EVENT, 12) and lists.was_written(12) and lists.was_read(9) and lists.was_laid(SAID, 9),
+    "Numbers of features.": lambda lists: lists.was_called(EVENT, 17) and lists.was_called(EVENTS, 17) and lists.was_laid(HEARD, 0, feature_of),
     "Turns.": lambda lists: all(lists.was_called(what, 15) for what in (EVENT, FINISH, NEXT)),
     "box of arcs": lambda lists: any((box.lent.table[:1], list(box.lent.words), box.number, box.edges) == (b"\x08", ARC, 0, ARC[:2] + ARC[4:])
                                      for box in lists.boxes),
@@ -240,8 +253,8 @@ def main():
         missing.extend(f"{what} {one}" for one in absent)
         print(f"{what}: {len(wanted) - len(absent)} of {len(wanted)}")
 
-    show("refusal", range(17), lists.refusals())
-    show("number of many events in a call", (0, 5, 11, 12, 15), [call.number for call in lists.calls if call.what == EVENTS])
+    show("refusal", range(18), lists.refusals())
+    show("number of many events in a call", (0, 5, 11, 12, 15, 17), [call.number for call in lists.calls if call.what == EVENTS])
     show("turn of a call with no event", (0, 1), [call.state[5] for call in lists.calls if call.what == EVENTS and not call.event])
     show("number of a property among calls", (0, 6, 11, 12, 15, 16), [call.number for call in lists.calls if call.what == PROPERTY])
     show("type written", TYPES, lists.types_written())
@@ -249,6 +262,12 @@ def main():
     show("bit above the flags", (16, 32, 64, 128), [tree.flags & bit for tree in lists.trees for bit in (16, 32, 64, 128)])
     show("type of a silent part", (5, 17), [kind for tree in lists.trees for kind in silent_parts(tree)])
     show("change of mode", CHANGES, lists.changes())
+    show("feature number heard", FEATURES, lists.numbers_heard(0))
+    show("feature number of a malformed event", FEATURES, lists.numbers_heard(11))
+    show("feature number said", FEATURES, lists.numbers_said())
+    show("sort of a reading under a feature number", [(sort, n) for sort in (WHOLE, CUT, LARGE) for n in (0, 1, TOP)], lists.numbers_read())
+    for what, wanted, found in features.shown(lists.rows):
+        show(what, wanted, found)
     show("number of a box", (0, 10, 13), [box.number for box in lists.boxes])
     show("slip of a box", [slip.__name__ for slip in SLIPS], [slip.__name__ for slip in SLIPS if lists.tells(slip)])
     show("entry of docs/DIFFERENCES.md", told, [entry for entry in told if is_covered(entry, lists)])

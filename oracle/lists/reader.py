@@ -4,13 +4,14 @@
     oracle/lists/reader.py ORACLE > LIST
 
 ORACLE is the oracle's program, the crate's own Rust. It reads every tree (request R). `Reading` below is this script's own reading of
-SPEC 7. The script stops where the two differ. 9 for a log without room comes from `Reading` alone. The seed is fixed: the same list comes out every time.
+SPEC 7. The script stops where the two differ. 9 for a log without room comes from `Reading` alone, and so does the feature's number in
+every event. The seed is fixed: the same list comes out every time.
 
 A tree is one case, with several readings of it, to logs of several lengths: all expect the first of the same events. The numbers of a
 case, by their index:
-  0: sort 6, 1: declared type, 2: flags, 3: table length, and where it is described, 5: ends lent, and where they are described,
-  7: place and count lent of xy, and where it is described, and so on of z, m, t, tm, 22: where the events are described,
-  23: how many readings, 24: each reading (sort, 6 to 9, log length, number, count);
+  0: sort 6, 1: declared type, 2: flags, 3: the feature's number, 4: table length, and where it is described, 6: ends lent, and where
+  they are described, 8: place and count lent of xy, and where it is described, and so on of z, m, t, tm, 23: where the events are
+  described, 24: how many readings, 25: each reading (sort, 6 to 9, log length, number, count);
   the descriptions of the table, the ends, xy, z, m, t, tm, the events
 The bytes of each of these are described as a row of numbers: a head, then a group that is repeated, then a tail. In each turn a
 number of the group grows by its step (0, 1, 2 or 4); so a tree of thousands of records, or of 65,536 pairs, takes a few numbers.
@@ -48,12 +49,12 @@ class Refused(Exception):
 
 
 class Reading:
-    def __init__(self, table, pools, flags):
+    def __init__(self, table, pools, flags, feature):
         # Of the byte of flags the higher four bits are not looked at.
-        self.table, self.pools, self.flags, self.said = table, pools, flags & 15, []
+        self.table, self.pools, self.flags, self.feature, self.said = table, pools, flags & 15, feature, []
 
     def say(self, kind, **fields):
-        self.said.append(ev(kind, **fields))
+        self.said.append(ev(kind, feature=self.feature, **fields))
 
     def record(self, n, level):
         if level > 16:
@@ -179,8 +180,8 @@ class Reading:
             raise Refused(TYPE_UNKNOWN)
 
 
-def read_by_spec(table, pools, declared, flags):
-    reading = Reading(table, pools, flags)
+def read_by_spec(table, pools, declared, flags, feature):
+    reading = Reading(table, pools, flags, feature)
     try:
         root = reading.record(0, 1)
         reading.geometry(root, declared or root["type"], 0)
@@ -189,9 +190,9 @@ def read_by_spec(table, pools, declared, flags):
     return DONE, reading.said
 
 
-def answer(table, pools, declared, flags):
-    number, said = read_by_spec(table, pools, declared, flags)
-    asked = oracle.read(Store(table, pools), declared, flags)
+def answer(table, pools, declared, flags, feature):
+    number, said = read_by_spec(table, pools, declared, flags, feature)
+    asked = oracle.read(Store(table, pools), declared, flags, feature)
     assert (asked.number, asked.events) == (number, said), (declared, flags, table, pools, number, asked)
     counts["trees"] += 1
     return number, said
@@ -200,6 +201,8 @@ def answer(table, pools, declared, flags):
 # Cases.
 
 counts = collections.Counter()
+# What trees are read under, one after the other, where no number is given.
+features = itertools.cycle((0, 1, TOP, 0x04030201))
 
 
 def description(data, head=0, group=0, tail=0):
@@ -231,9 +234,10 @@ def log_lengths(events):
     return [64 * room + rest() for room in rooms]
 
 
-def case(table, pools, declared=0, flags=0, sort=WHOLE, lengths=log_lengths, shape={}):
+def case(table, pools, declared=0, flags=0, sort=WHOLE, lengths=log_lengths, shape={}, feature=None):
     """`shape` has the head, group and tail of what is not described as a head alone."""
-    number, said = answer(table, pools, declared, flags)
+    feature = next(features) if feature is None else feature
+    number, said = answer(table, pools, declared, flags, feature)
     sort = BAD if sort == WHOLE and number == BAD_RECORD else sort
     readings = [reading_of(number, said, length, sort) for length in lengths(len(said))]
     packed = [struct.pack(f"<{len(pool)}{'I' if i == 1 else 'Q'}", *pool) for i, pool in enumerate(pools)]
@@ -241,10 +245,10 @@ def case(table, pools, declared=0, flags=0, sort=WHOLE, lengths=log_lengths, sha
     places = list(itertools.accumulate([0] + [len(pools[i]) for i in WORD_POOLS]))
     assert max(len(table) - 262272, places[-1] - 262208, len(pools[1]) - 65540) <= 0
     descriptions = [description(row, *shape.get(name, ())) for name, row in rows.items()]
-    where = itertools.accumulate([24 + 4 * len(readings)] + [len(description) // 4 for description in descriptions])
+    where = itertools.accumulate([25 + 4 * len(readings)] + [len(description) // 4 for description in descriptions])
     lent = [[len(table)], [len(pools[1])], *[[place, len(pools[i])] for place, i in zip(places, WORD_POOLS)], []]
     lists = [n for numbers, at in zip(lent, where) for n in (*numbers, at)]
-    framed = frame(TREE, declared, flags, *lists, len(readings), *itertools.chain(*readings), *descriptions)
+    framed = frame(TREE, declared, flags, feature, *lists, len(readings), *itertools.chain(*readings), *descriptions)
     assert len(framed) <= 65540
     return framed
 
@@ -609,6 +613,14 @@ def higher_flag_trees():
             yield node(pick.choice(OWN), 3, xy=words(6), ends=[1, 3], **values), 0, flags
 
 
+def numbered_cases():
+    """Each type, with no flag and with all, read under each of these numbers; and a bad record."""
+    for kind, flags in itertools.product((*OWN, *PARENTS), (0, 15)):
+        tree = laid(dict(good_node(kind), **{name: words(2) for name in VALUES}))
+        yield from (case(*tree, 0, flags, feature=feature) for feature in (0, 1, 256, 2**24, TOP))
+    yield from (case(changed(record(LINE, 0, [0] * 14), 3, 1, 1), [[]] * 6, feature=feature) for feature in (0, 1, TOP))
+
+
 def main():
     write = sys.stdout.buffer.write
     for tree, declared, flags in trees():
@@ -618,6 +630,8 @@ def main():
         write(framed)
     for tree, declared, flags in itertools.chain(silent_trees(), higher_flag_trees()):
         write(case(*laid(tree), declared, flags))
+    for framed in numbered_cases():
+        write(framed)
     for what, count in sorted(counts.items(), key=str):
         print(what, count, file=sys.stderr)
 

@@ -6,11 +6,13 @@
 ORACLE is the oracle's program, the crate's own Rust. Its client's builders lay out the events and the trees (`ev`, `store`). Each
 expected number, list and edge is this script's own reading of SPEC 3 and 8 (of boxes boxes.py's). The oracle is asked too where it has an
 answer, and this script stops where the two differ: whether an event of 64 bytes is malformed, and the box that a writer keeps over the
-same pairs, those of all parts joined. It has none for refusals 9, 10 and 13. The seed is fixed: the same list comes out every time.
+same pairs, those of all parts joined. It has none for refusals 9, 10 and 13, and knows no feature numbers. The seed is fixed: the same
+list comes out every time.
 
 The numbers of a case, by their index; a word takes two.
-  event    0: sort 0, 1: number; the event
-  said     0: sort 1, 1: number, 2: log length, 3: count (word), 5: count after (word), 7: place; the event, the bytes at that place after
+  event    0: sort 0, 1: number, 2: the feature's number, 0 where the event has not 64 bytes; the event
+  said     0: sort 1, 1: number, 2: log length, 3: count (word), 5: count after (word), 7: place; the event, with the number of the feature
+           that it is said under in its place, the bytes at that place of the log after
   record   0: sort 2, 1: number, 2: record (word), 4: table length, 5: place, 6: type, 7: lent of each pool,
            13: each list (present, start, count); the bytes at that place
   box      0: sort 3, 1: number, 2: record (word), 4: table length, 5: place, 6: bytes of the table, 7: lent of xy, 8: place of the
@@ -20,7 +22,7 @@ import itertools, random, struct, sys
 
 from boxes import ARC, ABSENT, BAD_RECORD, DONE, INFINITY, SIGN, USABLE, Lent, Walk, judged
 from cases import BOX, HEARD, RECORD, SAID, frame, word
-from client import Oracle, begin, bits, ev, store
+from client import Oracle, begin, bits, ev, feature_of, store, under
 
 LOG_FULL, MALFORMED = 9, 11
 TOP = 2**32 - 1
@@ -38,8 +40,8 @@ TAGGED_TYPES = {2, 3, 17}
 def event_number(event):
     if len(event) != 64 or event[0] not in KINDS:
         return MALFORMED
-    kind, tagged, present, spare, size, _, more_spare, x, y, z, m, t, tm = struct.unpack("<BBBBIII6Q", event)
-    unused = [spare, more_spare, tagged // 2, present // 16]
+    kind, tagged, present, spare, size, _, _, x, y, z, m, t, tm = struct.unpack("<BBBBIII6Q", event)
+    unused = [spare, tagged // 2, present // 16]
     if kind >= 64 or kind % 32 not in TAGGED_TYPES:
         unused.append(tagged)
     if kind >= 32 or kind == 1:
@@ -53,7 +55,7 @@ def event_number(event):
 
 
 def full_event(kind):
-    """A well-formed event in which no byte of a used number is zero."""
+    """A well-formed event, of feature 0, in which no byte of another used number is zero."""
     filled = lambda size: int.from_bytes(pick.choices(range(1, 256), k=size), "little")
     fields = dict(idx=filled(4))
     if kind < 64 and kind % 32 in TAGGED_TYPES:
@@ -94,12 +96,26 @@ def events():
         yield pick.randbytes(64)
 
 
+# Numbers of features: of one byte, of each other byte alone, and of all four.
+FEATURES = (0, 1, 255, 256, 65536, 2**24, 2**31, 0x04030201, TOP)
+
+
+def numbered_events():
+    """Every kind under each number: as it is, malformed in each way that the head can be, and a byte too short or too long."""
+    for kind, feature in itertools.product(KINDS, FEATURES):
+        event = under(feature, full_event(kind))
+        yield event
+        yield from (altered(event, at, value) for at, value in ((0, 13), (1, 2), (2, 16), (3, 1)))
+        yield event[:63]
+        yield event + b"\0"
+
+
 def event_case(event):
     number = event_number(event)
     if len(event) == 64:
         answered = oracle.write([event]).numbers[0]
         assert (answered == MALFORMED) == (number == MALFORMED), event
-    return frame(HEARD, number, event)
+    return frame(HEARD, number, feature_of(event) if len(event) == 64 else 0, event)
 
 
 def said_case(event, length, count):
@@ -108,10 +124,14 @@ def said_case(event, length, count):
     return frame(SAID, LOG_FULL, length, word(count), word(count), 0, event)
 
 
-def said_cases(good):
+def said_in_turn(good):
     for event in good:
         records = pick.randrange(1, 6)
         yield said_case(event, 64 * records + pick.randrange(64), pick.randrange(records))
+
+
+def said_cases(good):
+    yield from said_in_turn(good)
     for records, rest in itertools.product((0, 1, 2, 3, 4, 4097), (0, 1, 63)):
         for count in sorted({0, 1, max(records - 1, 0), records, records + 1, 1048575, 1048576, 2**32, 2**58, 2**58 + 1, 2**64 - 1}):
             yield said_case(pick.choice(good), 64 * records + rest, count)
@@ -385,11 +405,18 @@ def part_cases():
     return itertools.chain(level_cases(), twice_cases(), refused_cases(), list_cases(), some_table_cases())
 
 
+def numbered_cases():
+    """What is heard of each number, and what is said under it."""
+    numbered = list(numbered_events())
+    yield from map(event_case, numbered)
+    yield from said_in_turn(event for event in numbered if event_number(event) == DONE)
+
+
 def main():
     events_heard = list(events())
-    good = [event for event in events_heard if event_number(event) == DONE]
+    good = [event for event in events_heard if event_number(event) == DONE and not feature_of(event)]
     write = sys.stdout.buffer.write
-    for case in itertools.chain(map(event_case, events_heard), said_cases(good), record_cases(), box_cases(), part_cases()):
+    for case in itertools.chain(map(event_case, events_heard), said_cases(good), record_cases(), box_cases(), part_cases(), numbered_cases()):
         write(case)
 
 

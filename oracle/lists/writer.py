@@ -6,17 +6,22 @@
 ORACLE is the oracle's program, the crate's own Rust. A row is a start and then events, properties, finishes and nexts, each on memory
 lent as long as the row says at that call. What each call answers and leaves behind is given by `Writer`, this script's own reading of
 SPEC 6. Every row is then written by the oracle too (request W; it is not given what SPEC alone refuses,
-with 12, 15 or 16, or with 11 for its length), and this script stops where the two differ: in a number, in the state after a call, in a
-finished tree, record by record and word by word, in a feature's property bytes, or in the lists still pending at the row's end. From
-SPEC alone come 12, 15, 16, where the pending lists stand, and the words that stay as they were. Each row is then given again, with
-its events many in a call, up to the first that is refused and then on from the one behind it, and here and there with a tail that is
-no whole record: the same states must come of it. A call that is given no event at all is made both times. The seeds are fixed: the same
-list comes out every time. How many rows of each sort there are, and how often each number is answered, is written to standard error.
+with 12, 15, 16 or 17, or with 11 for its length), and this script stops where the two differ: in a number, in the state after a call, in
+a finished tree, record by record and word by word, in a feature's property bytes, or in the lists still pending at the row's end. From
+SPEC alone come 12, 15, 16, 17, the feature's number in the state, where the pending lists stand, and the words that stay as they were.
+Each row is then given again, with its events many in a call, up to the first that is refused and then on from the one behind it, and
+here and there with a tail that is no whole record: the same states must come of it. A call that is given no event at all is made both
+times. The seeds are fixed: the same list comes out every time. How many rows of each sort there are, and how often each number is
+answered, is written to standard error.
+
+The events of a feature have one number, which a row picks anew after each next; rows about numbers give each event its own. In some of
+these the state is handed over with other marks above 4 and another word 3: that is no call, and the oracle sees nothing of it.
 
 A case has a head of two bytes, the state's first word, numbers, a checksum of eight bytes, and what the call is given: an event, or
 events, or a property's value (a word) and its text.
-  head     how many bytes each number has, 1 or 4; what is called: 0 start, 1 event, 2 events, 3 property, 4 finish, 5 next
-  state    its first word: declared type, current type, mode, marks (1 detect, 2 promote, 4 waiting)
+  head     how many bytes each number has, 1 or 4; what is called: 0 start, 1 event, 2 events, 3 property, 4 finish, 5 next, 6 nothing:
+           the state's words are from here on those of the case
+  state    its first word: declared type, current type, mode, marks (1 detect, 2 promote, 4 waiting, 8 numbered)
   numbers  0: number, 1: how many events are taken of many, 2: how often the call is made, 3: lent records, 4: lent bytes after them,
            5: lent of each pool, 11: the other words of the state after, 26: column, 27: type
 A property's lent bytes are those of its buffer; where the feature has no property bytes yet, canaries are laid down in it before the
@@ -25,10 +30,10 @@ call. A start lays them down in all that it is lent. The checksum is that of all
 import collections, copy, itertools, random, struct, sys
 
 import differences
-from cases import EVENT, EVENTS, FINISH, NEXT, PROPERTY, START, canary, canary_end, canary_word, frame, word
-from client import FINISH as FINISH_ITEM, Oracle, begin, end, ev, prop, store
+from cases import EVENT, EVENTS, FINISH, NEXT, PROPERTY, START, WORDS, canary, canary_end, canary_word, frame, word
+from client import FINISH as FINISH_ITEM, Oracle, begin, end, ev, feature_of, prop, store, under
 
-DONE, MIXED, NOT_UTF8, MALFORMED, NO_ROOM, NOT_ITS_TURN, COLUMN_TOO_LARGE = 0, 5, 6, 11, 12, 15, 16
+DONE, MIXED, NOT_UTF8, MALFORMED, NO_ROOM, NOT_ITS_TURN, COLUMN_TOO_LARGE, OTHER_FEATURE = 0, 5, 6, 11, 12, 15, 16, 17
 NORMAL, COLLECTION, FORCE_MULTI = range(3)
 MODES = ("Normal", "GeometryCollection", "ForceMulti")
 POOLS = ("xy", "ends", "z", "m", "t", "tm")
@@ -39,11 +44,13 @@ BUFFER = 1024
 TYPES = sorted(set(range(1, 18)) - {13, 14})
 TAGGED_TYPES = (2, 3, 17)
 KINDS = TYPES + [kind + 32 for kind in TYPES] + [64, 65]
-ALL_BITS = 2**64 - 1
+ALL_BITS, TOP = 2**64 - 1, 2**32 - 1
+NUMBERED = 8
 oracle = Oracle(sys.argv[1])
 pick = random.Random(3)
 # What is added to the rows goes by a source of its own, so that the rows stay as they are.
 added = random.Random(4)
+numbering = random.Random(5)
 
 
 # The writer, as SPEC 6 has it.
@@ -51,8 +58,8 @@ added = random.Random(4)
 def is_malformed(event):
     if len(event) != 64 or event[0] not in KINDS:
         return True
-    kind, tagged, present, spare, size, _, more_spare, x, y, *values = struct.unpack("<BBBBIII6Q", event)
-    unused = [spare, more_spare, tagged // 2, present // 16]
+    kind, tagged, present, spare, size, _, _, x, y, *values = struct.unpack("<BBBBIII6Q", event)
+    unused = [spare, tagged // 2, present // 16]
     unused += [tagged] if kind >= 64 or kind % 32 not in TAGGED_TYPES else []
     unused += [size] if kind >= 32 or kind == 1 else []
     unused += [x, y] if kind < 64 else []
@@ -65,15 +72,29 @@ class Writer:
         self.declared, self.detect, self.promote = declared, detect, promote
         self.current, self.mode, self.waiting, self.parts = 0, NORMAL, 0, 0
         self.start, self.count, self.properties = [0] * 6, [0] * 6, 0
+        # The number of the feature in hand, and words that were handed over and that no accepted call has written since.
+        self.feature, self.words = None, None
         self.table = bytearray(map(canary, range(64 * held[0] + held[1])))
         self.pools = [list(map(canary_end if pool == ENDS else canary_word, range(n))) for pool, n in enumerate(held[2:])]
         self.buffer = bytearray()
 
     def state(self):
         """The bytes of the first word, and the other words."""
-        marks = self.detect | self.promote << 1 | self.waiting << 2
+        if self.words:
+            return self.words
+        marks = self.detect | self.promote << 1 | self.waiting << 2 | (0 if self.feature is None else NUMBERED)
         pending = [n for pair in zip(self.start, self.count) for n in pair]
-        return bytes([self.declared, self.current, self.mode, marks]), [self.parts, self.properties, 0, *pending]
+        return bytes([self.declared, self.current, self.mode, marks]), [self.parts, self.properties, self.feature or 0, *pending]
+
+    def hand_over(self, marks, third):
+        """The state comes with other marks above 4, and another word 3."""
+        (*typing, low), (parts, properties, _, *pending) = self.state()
+        self.words = bytes([*typing, low & 7 | marks]), [parts, properties, third, *pending]
+        self.feature = third if marks & NUMBERED else None
+
+    def accepted(self):
+        self.words = None
+        return DONE
 
     def used(self):
         """Of the table's records and of each pool's words."""
@@ -112,6 +133,8 @@ class Writer:
             return MALFORMED
         if self.waiting:
             return NOT_ITS_TURN
+        if self.feature not in (None, feature_of(event)):
+            return OTHER_FEATURE
         kind, tagged, present = event[:3]
         typing, words, part = (self.declared, self.current, self.mode), [[] for _ in POOLS], False
         calmed = (self.declared, self.current, NORMAL if tagged and self.mode == FORCE_MULTI else self.mode)
@@ -142,7 +165,8 @@ class Writer:
             self.parts += 1
             self.put_part(self.parts)
         self.declared, self.current, self.mode = typing
-        return DONE
+        self.feature = feature_of(event)
+        return self.accepted()
 
     def events(self, records, lent):
         """The number, and how many records are taken. A rest that is no whole record is an event too, and malformed."""
@@ -170,7 +194,7 @@ class Writer:
             return NO_ROOM
         self.buffer[self.properties:self.properties + len(laid)] = laid
         self.properties += len(laid)
-        return DONE
+        return self.accepted()
 
     def put_part(self, number):
         """The pending lists as a record; they are pending no longer."""
@@ -194,7 +218,7 @@ class Writer:
         else:
             self.put_record(0, 64, *[(0, 0)] * 6, (1, self.parts))
         self.waiting = 1
-        return DONE
+        return self.accepted()
 
     def next(self, lent):
         if not self.waiting:
@@ -203,8 +227,8 @@ class Writer:
             return NO_ROOM
         for pool, start, count in zip(self.pools, self.start, self.count):
             pool[:count] = pool[start:start + count]
-        self.start, self.parts, self.waiting, self.properties = [0] * 6, 0, 0, 0
-        return DONE
+        self.start, self.parts, self.waiting, self.properties, self.feature = [0] * 6, 0, 0, 0, None
+        return self.accepted()
 
     def checksum(self, lent):
         pools = [pool[:n] for pool, n in zip(self.pools, lent[2:])]
@@ -237,9 +261,16 @@ HELD = (9, 24, 48, 16, 16, 16, 16, 16)
 counted = collections.Counter()
 
 
+def some_number():
+    """Most are small, so that a case's numbers have one byte each."""
+    return numbering.choice((0, 1, 7, 255)) if numbering.random() < 0.8 else numbering.choice((256, 2**24, TOP, numbering.getrandbits(32)))
+
+
 class Row:
-    def __init__(self, declared, detect=0, promote=0, held=HELD):
+    def __init__(self, declared, detect=0, promote=0, held=HELD, most=None):
         self.writer, self.held, self.cases = Writer(declared, detect, promote, held), held, []
+        # The number of the feature in hand, and how many events are given in a call, where that is said.
+        self.number, self.most = some_number(), most
         # What is asked of the oracle, and what it is to answer; and each call, with the state after it.
         self.items, self.answers, self.trees, self.property_bytes, self.calls = [], [], [], [], []
         self.counted = collections.Counter()
@@ -259,11 +290,20 @@ class Row:
     def called(self, *call):
         self.calls.append((call, self.writer.state()))
 
+    def numbered(self, event):
+        """The event under the number of the feature in hand; if it has one itself, under another."""
+        number = self.number if self.writer.feature is None else self.writer.feature
+        return under(number ^ feature_of(event), event)
+
     def event(self, event, lent=None, times=1):
+        return self.given(self.numbered(event), lent, times)
+
+    def given(self, event, lent=None, times=1):
+        """An event under the number that it has."""
         lent = lent or self.held
         for _ in range(times):
             number = self.writer.event(event, lent)
-            if not self.writer.waiting and len(event) == 64 and number != NO_ROOM:
+            if not self.writer.waiting and len(event) == 64 and number not in (NO_ROOM, OTHER_FEATURE):
                 self.ask(event, number)
         self.called(EVENT, lent, event, times)
         return self.lay_out(EVENT, number, lent, event, times=times)
@@ -305,8 +345,15 @@ class Row:
 
     def next(self, lent=None):
         number = self.writer.next(lent or self.held)
+        if number == DONE:
+            self.number = some_number()
         self.called(NEXT, lent)
         return self.lay_out(NEXT, number, lent or self.held)
+
+    def hand_over(self, marks, third):
+        self.writer.hand_over(marks, third)
+        self.called(WORDS, marks, third)
+        return self.lay_out(WORDS, DONE, self.held)
 
     def feature(self, events):
         self.events(events)
@@ -337,8 +384,8 @@ class Row:
     def again(self):
         """The cases of the same calls, with the events many in a call: as many as are lent the same, up to some number."""
         row = Row(**self.typing, held=self.held)
-        make_again = {EVENTS: row.no_events, PROPERTY: row.property, FINISH: row.finish, NEXT: row.next}
-        together = Together(row)
+        make_again = {EVENTS: row.no_events, PROPERTY: row.property, FINISH: row.finish, NEXT: row.next, WORDS: row.hand_over}
+        together = Together(row, self.most)
         for (what, *given), state in self.calls:
             if what == EVENT:
                 together.add(*given)
@@ -355,14 +402,14 @@ class Row:
 class Together:
     """Events that are still to be given to a row, many in a call."""
 
-    def __init__(self, row):
-        self.row, self.events, self.lent, self.most = row, [], None, 0
+    def __init__(self, row, most):
+        self.row, self.events, self.lent, self.most, self.all_most = row, [], None, 0, most
 
     def add(self, lent, event, times):
         if self.events and (lent != self.lent or len(self.events) == self.most or len(self.events[-1]) < 64):
             self.give()
         if not self.events:
-            self.lent, self.most = lent, added.randrange(1, 25)
+            self.lent, self.most = lent, self.all_most or added.randrange(1, 25)
         if times > 1:
             self.give()
             for records, turns in ((64, times // 64), (times % 64, 1)):
@@ -596,9 +643,9 @@ def shorter(lent, at):
 
 def tightest(row, call):
     """The least that can be lent to a call that is taken. The table's remainder stays, and is no room."""
-    lent = list(row.held)
+    lent, given = list(row.held), call if call in (FINISH, NEXT) else row.numbered(call)
     for at in SLICES:
-        while lent[at] and make(call, copy.deepcopy(row.writer), shorter(lent, at)) == DONE:
+        while lent[at] and make(given, copy.deepcopy(row.writer), shorter(lent, at)) == DONE:
             lent[at] -= 1
     return lent
 
@@ -733,17 +780,151 @@ def open_rows():
             yield row
 
 
+# Rows about the numbers of features.
+
+# A number, and another: they differ in one byte, in all, or in all but the lowest.
+APART = ((0, 1), (1, 0), (0, TOP), (TOP, 0), (7, 7 + 256), (7 + 256, 7), (7, 7 + 65536), (7, 7 + 2**24), (2**24, 0), (TOP, 255),
+         (0x04030201, 0x01020304))
+SHORT = (1, 63, 1, 1, 1, 1, 1, 1)
+
+
+def every_event():
+    for kind, tagged in itertools.product(TYPES, (0, 1)):
+        if not tagged or kind in TAGGED_TYPES:
+            yield from (begin(kind, tagged=tagged), end(kind, tagged=tagged))
+    yield from map(pair, (None, 0, 1, 8, 15))
+
+
+def other_feature_rows():
+    """Each event under another number than the one in hand, and under that one; then as the first of the next feature."""
+    for event, (held, other) in zip(list(every_event()) * 4, itertools.cycle(APART)):
+        row = Row(0)
+        row.given(under(held, pair()))
+        for feature in (other, held, other):
+            row.given(under(feature, event))
+        row.given(under(held, pair()))
+        row.finish()
+        row.next()
+        for feature in (other, held, other):
+            row.given(under(feature, event))
+        row.given(under(held, pair()))
+        row.finish()
+        yield row
+
+
+def number_order_rows():
+    """Every set of reasons to refuse an event, another number among them, with a feature in hand and with none; then the same event under
+    the number in hand, and pairs under a third one and that one: what was refused has put no feature in hand."""
+    held, other, third = 7, 9, 8
+    for has_number, waiting, malformed, differs, mixed, cut in itertools.product((0, 1), repeat=6):
+        row = Row(3)
+        if has_number:
+            for event in (begin(3, tagged=1), pair(15), end(2), ev(35), pair(15), end(2)):
+                row.given(under(held, event))
+        if waiting:
+            row.finish()
+        event = bytearray(begin(4) if mixed else pair(15))
+        event[3] = malformed
+        for feature in (other, held) if differs else (held,):
+            row.given(under(feature, bytes(event)), SHORT if cut else None)
+        if waiting:
+            row.next()
+        for feature in (third, held, third):
+            row.given(under(feature, pair()))
+        yield row
+
+
+def kept_number_rows():
+    """Properties, finishes and nexts, done and refused, between events of the feature in hand and of another; a feature with parts, of
+    which words are carried into the next one, under its own number; and a feature of properties alone."""
+    for held, other in APART:
+        row = Row(0)
+
+        def pairs_under(*features):
+            for feature in features:
+                row.given(under(feature, pair(15)))
+        row.property(1, 1, 7)
+        for event in (pair(15), end(2), ev(35), pair(15)):
+            row.given(under(held, event))
+        row.property(2, 1, 9)
+        pairs_under(other)
+        row.property(65536, 1, 9)
+        pairs_under(other)
+        row.next()
+        row.finish(SHORT)
+        pairs_under(other, held)
+        row.finish()
+        row.property(3, 1, 9)
+        row.finish()
+        pairs_under(held, other)
+        row.next(SHORT)
+        pairs_under(held, other)
+        row.next()
+        row.no_events()
+        pairs_under(other, held, other)
+        row.finish()
+        row.next()
+        row.property(4, 1, 9)
+        row.finish()
+        row.next()
+        pairs_under(held, other)
+        yield row
+
+
+RUN = 6
+
+
+def number_run_rows():
+    """Runs of events in one call, in which one event, or all from one on, are of another feature."""
+    runs = (lambda: [pair() for _ in range(RUN)], lambda: [pair(i % 16) for i in range(RUN)], lambda: [pair(15) for _ in range(RUN)],
+            lambda: [begin(2), end(2), begin(3), begin(17), pair(), end(17)], lambda: [begin(4), pair(), pair(0), end(4), begin(1), ev(35)])
+    for (run, at, on), (held, other) in zip(itertools.product(runs, range(RUN), (0, 1)), itertools.cycle(APART)):
+        row = Row(0, most=2 * RUN)
+        for i, event in enumerate(run() + [pair()]):
+            row.given(under(other if i == at or on and i > at else held, event))
+        row.finish()
+        yield row
+
+
+MARKS = (0, 8, 16, 0xF0, 0xF8)
+
+
+def handed_over_rows():
+    """States that come with the mark 8 and without it, with any word 3, and with marks above 8, while a feature waits and while none does:
+    each call, done and refused; then pairs under the number of word 3 and another one, and the next feature."""
+    other, malformed = 0x01000107, bytes([64, 0, 0, 1]) + bytes(60)
+    for waiting, marks, third in itertools.product((0, 1), MARKS, (0, 7, TOP)):
+        for call in (lambda row: row.given(under(third, pair())), lambda row: row.given(under(other, pair())),
+                     lambda row: row.given(under(third, malformed)), lambda row: row.given(under(third, pair()), NOTHING_LENT),
+                     lambda row: row.no_events(), lambda row: row.property(1, 1, 7), lambda row: row.property(65536, 1, 7),
+                     lambda row: row.finish(), lambda row: row.finish(NOTHING_LENT), lambda row: row.next(),
+                     lambda row: row.next(NOTHING_LENT)):
+            row = Row(0, held=(3, 1, 12, 2, 1, 1, 1, 1))
+            row.given(under(7, pair()))
+            if waiting:
+                row.finish()
+            row.hand_over(marks, third)
+            call(row)
+            for feature in (other, third, other):
+                row.given(under(feature, pair()))
+            row.finish()
+            row.next()
+            row.given(under(other, pair()))
+            yield row
+
+
 def main():
     sorts = dict(nested=nested_rows(), types=type_rows(), declared=other_declared_rows(), wild=wild_rows(350, 30, 0),
                  tight=wild_rows(250, 30, 0.3), leftovers=leftover_rows(), order=order_rows(), room=room_rows(), bench=bench_rows(),
                  limits=limit_rows(), differences=difference_rows(), properties=property_rows(),
-                 no_events=no_event_rows(), open=open_rows())
+                 no_events=no_event_rows(), open=open_rows(), other_feature=other_feature_rows(), number_order=number_order_rows(),
+                 kept_number=kept_number_rows(), number_run=number_run_rows(), handed_over=handed_over_rows())
     for name, rows in sorts.items():
         laid = [row.done() for row in rows]
         sys.stdout.buffer.write(b"".join(itertools.chain(*laid)))
         print(name, len(laid), "rows,", sum(map(len, laid)), "cases", file=sys.stderr)
     for (what, number), count in sorted(counted.items()):
-        print(("start", "event", "events", "property", "finish", "next")[what], "answered", number, count, file=sys.stderr)
+        print(("start", "event", "events", "property", "finish", "next", "hand over")[what], "answered", number, count, file=sys.stderr)
 
 
 main()

@@ -5,39 +5,43 @@ use bintolage::{column_type, event, geometry_type, usable, Event, Memory, Refusa
 const COLUMNS: [u8; 3] = [column_type::DOUBLE, column_type::USHORT, column_type::STRING];
 const NAMES: [&str; 3] = ["depth", "slope", "crew"];
 
+// the numbers of the two features
+const FIELD: u32 = 1;
+const BLOCKS: u32 = 2;
+
 const EDGE: [(f64, f64); 5] = [(0.0, 0.0), (400.0, 0.0), (400.0, 250.0), (0.0, 250.0), (0.0, 0.0)];
 const MAIN_PIPE: [(f64, f64); 5] = [(50.0, 40.0), (50.0, 60.0), (350.0, 60.0), (350.0, 40.0), (50.0, 40.0)];
 const WELL: [(f64, f64); 4] = [(200.0, 150.0), (210.0, 160.0), (190.0, 160.0), (200.0, 150.0)];
 const WEST: [(f64, f64); 4] = [(450.0, 20.0), (600.0, 20.0), (600.0, 310.0), (450.0, 20.0)];
 const EAST: [(f64, f64); 4] = [(620.0, -40.0), (780.0, -40.0), (780.0, 200.0), (620.0, -40.0)];
 
-fn write_ring(writer: &mut Writer, idx: u32, pairs: &[(f64, f64)]) -> Result<(), Refusal> {
-    writer.event(&Event::begin(geometry_type::LINE_STRING, false, pairs.len() as u32, idx))?;
+fn write_ring(writer: &mut Writer, feature: u32, idx: u32, pairs: &[(f64, f64)]) -> Result<(), Refusal> {
+    writer.event(&Event::begin(feature, geometry_type::LINE_STRING, false, pairs.len() as u32, idx))?;
     for (i, &(x, y)) in pairs.iter().enumerate() {
-        writer.event(&Event::xy(x, y, i as u32))?;
+        writer.event(&Event::xy(feature, x, y, i as u32))?;
     }
-    writer.event(&Event::end(geometry_type::LINE_STRING, false, idx))
+    writer.event(&Event::end(feature, geometry_type::LINE_STRING, false, idx))
 }
 
 fn write_field(writer: &mut Writer) -> Result<(), Refusal> {
-    writer.event(&Event::begin(geometry_type::POLYGON, true, 3, 0))?;
-    write_ring(writer, 0, &EDGE)?;
-    write_ring(writer, 1, &MAIN_PIPE)?;
-    write_ring(writer, 2, &WELL)?;
-    writer.event(&Event::end(geometry_type::POLYGON, true, 0))
+    writer.event(&Event::begin(FIELD, geometry_type::POLYGON, true, 3, 0))?;
+    write_ring(writer, FIELD, 0, &EDGE)?;
+    write_ring(writer, FIELD, 1, &MAIN_PIPE)?;
+    write_ring(writer, FIELD, 2, &WELL)?;
+    writer.event(&Event::end(FIELD, geometry_type::POLYGON, true, 0))
 }
 
 fn write_block(writer: &mut Writer, idx: u32, pairs: &[(f64, f64)]) -> Result<(), Refusal> {
-    writer.event(&Event::begin(geometry_type::POLYGON, false, 1, idx))?;
-    write_ring(writer, 0, pairs)?;
-    writer.event(&Event::end(geometry_type::POLYGON, false, idx))
+    writer.event(&Event::begin(BLOCKS, geometry_type::POLYGON, false, 1, idx))?;
+    write_ring(writer, BLOCKS, 0, pairs)?;
+    writer.event(&Event::end(BLOCKS, geometry_type::POLYGON, false, idx))
 }
 
 fn write_blocks(writer: &mut Writer) -> Result<(), Refusal> {
-    writer.event(&Event::begin(geometry_type::MULTI_POLYGON, false, 2, 0))?;
+    writer.event(&Event::begin(BLOCKS, geometry_type::MULTI_POLYGON, false, 2, 0))?;
     write_block(writer, 0, &WEST)?;
     write_block(writer, 1, &EAST)?;
-    writer.event(&Event::end(geometry_type::MULTI_POLYGON, false, 0))
+    writer.event(&Event::end(BLOCKS, geometry_type::MULTI_POLYGON, false, 0))
 }
 
 fn print_event(e: Event) {
@@ -57,9 +61,9 @@ fn print_event(e: Event) {
 }
 
 /// The box of record 0 is around the whole feature, also where all its pairs are in its parts.
-fn print_feature(tree: Tree) -> Result<(), Refusal> {
+fn print_feature(tree: Tree, feature: u32) -> Result<(), Refusal> {
     let mut log = [0; 64 * usable::EVENT_BYTES];
-    let read = tree.read(geometry_type::UNKNOWN, 0, &mut log);
+    let read = tree.read(geometry_type::UNKNOWN, 0, feature, &mut log);
     read.answer?;
     Event::in_log(&log, read.count).for_each(print_event);
     let b = tree.bbox(0);
@@ -93,10 +97,10 @@ fn main() -> Result<(), Refusal> {
     writer.property(0, Value::Double(1.15))?;
     writer.property(1, Value::UShort(3))?;
     writer.property(2, Value::String("Jensen, Søren"))?;
-    print_feature(writer.finish()?)?;
+    print_feature(writer.finish()?, FIELD)?;
     print_properties(writer.properties())?;
     writer.next_feature()?;
     write_blocks(&mut writer)?;
-    print_feature(writer.finish()?)?;
+    print_feature(writer.finish()?, BLOCKS)?;
     writer.next_feature()
 }

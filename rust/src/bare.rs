@@ -63,8 +63,8 @@ pub fn next(state: &mut StateWords, memory: &mut Memory) -> u8 {
 }
 
 #[inline]
-pub fn read(tree: Tree, declared: u8, flags: u8, log: &mut [u8], count: &mut u32) -> u8 {
-    with_lists!(link::bintolage_read(; tree.as_ptr; declared, flags, log.as_mut_ptr(), log.len(), count))
+pub fn read(tree: Tree, declared: u8, flags: u8, feature: u32, log: &mut [u8], count: &mut u32) -> u8 {
+    with_lists!(link::bintolage_read(; tree.as_ptr; declared, flags, feature, log.as_mut_ptr(), log.len(), count))
 }
 
 /// Without columns nothing is read.

@@ -19,6 +19,8 @@ pub struct Event {
     pub present: u8,
     pub size: u32,
     pub idx: u32,
+    /// The number of the feature that it is of: any, and the same in all events of a feature.
+    pub feature: u32,
     pub x: u64,
     pub y: u64,
     pub z: u64,
@@ -28,24 +30,27 @@ pub struct Event {
 }
 
 impl Event {
-    /// A geometry's begin. `size` is how many lines, rings, pairs or parts follow, and 0 for a Point; `tagged` says of a
-    /// LineString, Polygon or Triangle that it stands by itself or in a collection, and is false for all other types.
-    pub fn begin(geometry_type: u8, tagged: bool, size: u32, idx: u32) -> Event {
-        Event { kind: geometry_type, tagged, size, idx, ..Event::default() }
+    /// A geometry's begin, of the feature of that number. `size` is how many lines, rings, pairs or parts follow, and 0 for
+    /// a Point; `tagged` says of a LineString, Polygon or Triangle that it stands by itself or in a collection, and is false
+    /// for all other types.
+    pub fn begin(feature: u32, geometry_type: u8, tagged: bool, size: u32, idx: u32) -> Event {
+        Event { kind: geometry_type, tagged, size, idx, feature, ..Event::default() }
     }
 
-    /// Its end, with `tagged` and `idx` as its begin has them.
-    pub fn end(geometry_type: u8, tagged: bool, idx: u32) -> Event {
-        Event { kind: geometry_type.wrapping_add(END), tagged, idx, ..Event::default() }
+    /// Its end, with `feature`, `tagged` and `idx` as its begin has them.
+    pub fn end(feature: u32, geometry_type: u8, tagged: bool, idx: u32) -> Event {
+        Event { kind: geometry_type.wrapping_add(END), tagged, idx, feature, ..Event::default() }
     }
 
     /// A pair.
-    pub fn xy(x: f64, y: f64, idx: u32) -> Event {
-        Event { kind: XY, idx, x: x.to_bits(), y: y.to_bits(), ..Event::default() }
+    pub fn xy(feature: u32, x: f64, y: f64, idx: u32) -> Event {
+        Event { kind: XY, idx, feature, x: x.to_bits(), y: y.to_bits(), ..Event::default() }
     }
 
     /// A pair with those of z, m, t and tm that there are; its present bits say which.
+    #[allow(clippy::too_many_arguments)] // each is a field of the record
     pub fn coordinate(
+        feature: u32,
         x: f64,
         y: f64,
         z: Option<f64>,
@@ -62,7 +67,7 @@ impl Event {
             m: m.map_or(0, f64::to_bits),
             t: t.map_or(0, f64::to_bits),
             tm: tm.unwrap_or(0),
-            ..Event::xy(x, y, idx)
+            ..Event::xy(feature, x, y, idx)
         }
     }
 
@@ -74,6 +79,7 @@ impl Event {
         bytes[2] = self.present;
         bytes[4..8].copy_from_slice(&self.size.to_le_bytes());
         bytes[8..12].copy_from_slice(&self.idx.to_le_bytes());
+        bytes[12..16].copy_from_slice(&self.feature.to_le_bytes());
         for (i, word) in [self.x, self.y, self.z, self.m, self.t, self.tm].iter().enumerate() {
             bytes[16 + 8 * i..24 + 8 * i].copy_from_slice(&word.to_le_bytes());
         }
@@ -90,6 +96,7 @@ impl Event {
             present: bytes[2],
             size: u32_at(4),
             idx: u32_at(8),
+            feature: u32_at(12),
             x: u64_at(16),
             y: u64_at(24),
             z: u64_at(32),
@@ -99,7 +106,7 @@ impl Event {
         }
     }
 
-    /// The events of the first `count` records of a log.
+    /// The events of the first `count` records of a log. Where the log has several features, `feature` tells them apart.
     pub fn in_log(log: &[u8], count: usize) -> impl Iterator<Item = Event> + '_ {
         log.chunks_exact(64).take(count).map(|bytes| Event::from_bytes(bytes.try_into().unwrap()))
     }

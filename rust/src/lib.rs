@@ -7,6 +7,9 @@
 //! [`Writer`] holds the lent memory of one feature. [`Tree::read`], [`Tree::bbox`] and [`read_properties`] read. `State`
 //! is what a writer keeps between calls, as words that may be stored or sent. [`bare`] has the calls with their
 //! numbers, [`link`] as C sees them.
+//!
+//! Every event has the number of its feature, which the caller chooses: a writer takes events of one number until the next
+//! feature, and a reading says the number that it is given, so that one log can take several features.
 #![no_std]
 
 #[rustfmt::skip] // a pointer and its count on one line

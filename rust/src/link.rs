@@ -67,7 +67,7 @@ extern "C" {
         m: *const u64, m_words: usize,
         t: *const u64, t_words: usize,
         tm: *const u64, tm_words: usize,
-        declared: u8, flags: u8,
+        declared: u8, flags: u8, feature: u32,
         log: *mut u8, log_bytes: usize,
         count: *mut u32,
     ) -> u8;

@@ -37,10 +37,12 @@ pub enum Refusal {
     NotItsTurn,
     /// 16: a column above 65,535.
     ColumnTooLarge,
+    /// 17: the number of an event's feature is not the one that is held.
+    OtherFeature,
 }
 
 /// Each refusal's number and words.
-const WORDS: [(Refusal, u8, &str); 17] = [
+const WORDS: [(Refusal, u8, &str); 18] = [
     (Refusal::XyAbsent, 1, "an xy list is absent"),
     (Refusal::PartsAbsent, 2, "parts are absent"),
     (Refusal::ColumnUnknown, 2, "a column is not below the column count"),
@@ -58,6 +60,7 @@ const WORDS: [(Refusal, u8, &str); 17] = [
     (Refusal::ValueCut, 14, "a property value cut short"),
     (Refusal::NotItsTurn, 15, "not its turn"),
     (Refusal::ColumnTooLarge, 16, "column number above 65,535"),
+    (Refusal::OtherFeature, 17, "an event of another feature"),
 ];
 
 impl Refusal {
@@ -100,6 +103,7 @@ impl Refusal {
             14 => Err(Refusal::ValueCut),
             15 => Err(Refusal::NotItsTurn),
             16 => Err(Refusal::ColumnTooLarge),
+            17 => Err(Refusal::OtherFeature),
             _ => unreachable!("the library answers no other number"),
         }
     }

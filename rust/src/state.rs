@@ -7,10 +7,16 @@ pub type StateWords = [u32; STATE_WORDS];
 /// What a writer keeps between calls, as words: they may be copied, stored and sent.
 ///
 /// Any words are a state. A refused call leaves them as they were.
+///
+/// It holds the number of the feature in hand: the first event that is taken sets it, every further one must have it, and
+/// [`State::next`] lets it go. A refused event never sets it, and only events are held to it.
 #[derive(Clone, Copy, Debug, PartialEq, Eq)]
 pub struct State {
     words: StateWords,
 }
+
+/// Of the marks in word 0: a feature's number is held, and word 3 has it.
+const NUMBER_HELD: u32 = 8 << 24;
 
 /// How many events were taken, and why the one after them was not. All were if nothing was refused.
 #[derive(Clone, Copy, Debug, PartialEq, Eq)]
@@ -35,6 +41,11 @@ impl State {
         self.words
     }
 
+    /// The number of the feature in hand; none before its first event is taken.
+    pub fn feature(&self) -> Option<u32> {
+        (self.words[0] & NUMBER_HELD != 0).then_some(self.words[3])
+    }
+
     /// How many parts the feature has so far.
     pub fn parts(&self) -> usize {
         self.words[1] as usize
@@ -45,7 +56,7 @@ impl State {
         self.words[2] as usize
     }
 
-    /// Takes an event record, 64 bytes. Refused: 11, 15, 5, 12.
+    /// Takes an event record, 64 bytes. Refused: 11, 15, 17, 5, 12.
     pub fn event(&mut self, event: &[u8], memory: &mut Memory) -> Result<(), Refusal> {
         Refusal::of(bare::event(&mut self.words, event, memory))
     }
@@ -76,7 +87,8 @@ impl State {
         Refusal::of(bare::finish(&mut self.words, memory))
     }
 
-    /// Leaves a finished feature behind, and carries what is still pending into the next. Refused: 15, 12.
+    /// Leaves a finished feature behind, and carries what is still pending into the next; its number is let go. Refused: 15,
+    /// 12.
     pub fn next(&mut self, memory: &mut Memory) -> Result<(), Refusal> {
         Refusal::of(bare::next(&mut self.words, memory))
     }

@@ -45,7 +45,7 @@ impl<'a> Writer<'a> {
         Ok(self.memory.tree())
     }
 
-    /// Leaves a finished feature behind.
+    /// Leaves a finished feature behind, and its number: the next feature's first event sets its own.
     pub fn next_feature(&mut self) -> Result<(), Refusal> {
         self.state.next(&mut self.memory)
     }

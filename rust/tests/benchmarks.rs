@@ -1,12 +1,31 @@
-//! The benchmarks B1 to B14, and the runs at the limits.
+//! The benchmarks B1 to B14, those that have events under several feature numbers; and the runs at the limits.
 mod common;
-use bintolage::{column_type, geometry_type as ty, read_properties, Event, Refusal, State, Value, ValueRecord};
-use common::{framed, kinds, line, pairs, point_begin, polygon, Record, Room, ENDS, LINE_END, PARTS, XY};
+use bintolage::{column_type, geometry_type as ty, read_properties, Event, Read, Refusal, State, Value, ValueRecord};
+use common::{framed, kinds, line, numbered, pairs, point_begin, polygon, Record, Room};
+use common::{ENDS, FEATURE, LINE_END, PARTS, XY};
 
-fn finished(declared: u8, promote: bool, events: &[Event]) -> Room {
-    let mut room = Room::of(4, 16);
-    room.feature(&mut State::start(declared, false, promote), events);
-    room
+const NUMBERS: [u32; 4] = [0, 1, FEATURE, u32::MAX];
+
+/// The feature as a fresh writer leaves it, finished, under each number, in a room that reads under that number.
+fn finished(declared: u8, promote: bool, events: &[Event]) -> [Room; 4] {
+    NUMBERS.map(|feature| {
+        let mut room = Room { feature, ..Room::of(4, 16) };
+        room.feature(&mut State::start(declared, false, promote), &numbered(feature, events));
+        room
+    })
+}
+
+/// A reading's answer, and its kinds; all its events say the room's number.
+fn said(room: &mut Room, declared: u8) -> (Result<(), Refusal>, Vec<u8>) {
+    let (Read { answer, .. }, events) = room.read(declared, 0);
+    assert_eq!(events, numbered(room.feature, &events));
+    (answer, kinds(&events))
+}
+
+/// It is read as it was given.
+fn reads_back(room: &mut Room, declared: u8, given: &[Event]) {
+    let (read, events) = room.read(declared, 0);
+    assert_eq!((read.answer, events), (Ok(()), numbered(room.feature, given)));
 }
 
 fn pools_only(xy: (u32, u32), ends: Option<(u32, u32)>) -> Record {
@@ -15,78 +34,94 @@ fn pools_only(xy: (u32, u32), ends: Option<(u32, u32)>) -> Record {
 
 #[test]
 fn b1_polygon_of_one_ring() {
-    let room = finished(ty::POLYGON, false, &polygon(true, 0, &[pairs(4)]));
-    assert_eq!(room.record(0), pools_only((0, 8), None));
+    let given = polygon(true, 0, &[pairs(4)]);
+    for mut room in finished(ty::POLYGON, false, &given) {
+        assert_eq!(room.record(0), pools_only((0, 8), None));
+        reads_back(&mut room, ty::POLYGON, &given);
+    }
 }
 
 #[test]
 fn b2_polygon_of_two_rings() {
-    let room = finished(ty::POLYGON, false, &polygon(true, 0, &[pairs(4), pairs(4)]));
-    assert_eq!(room.record(0), pools_only((0, 16), Some((0, 2))));
-    assert_eq!(room.ends[..2], [4, 8]);
+    let given = polygon(true, 0, &[pairs(4), pairs(4)]);
+    for mut room in finished(ty::POLYGON, false, &given) {
+        assert_eq!(room.record(0), pools_only((0, 16), Some((0, 2))));
+        assert_eq!(room.ends[..2], [4, 8]);
+        reads_back(&mut room, ty::POLYGON, &given);
+    }
 }
 
 #[test]
 fn b3_polygon_of_no_ring_reads_as_one_empty_ring() {
-    let mut room = finished(ty::POLYGON, false, &polygon(true, 0, &[]));
-    assert_eq!(room.record(0), pools_only((0, 0), None));
-    assert_eq!(kinds(&room.read(ty::POLYGON, 0).1), [3, 2, 34, 35]);
+    for mut room in finished(ty::POLYGON, false, &polygon(true, 0, &[])) {
+        assert_eq!(room.record(0), pools_only((0, 0), None));
+        assert_eq!(said(&mut room, ty::POLYGON), (Ok(()), vec![3, 2, 34, 35]));
+    }
 }
 
 #[test]
 fn b4_lines_of_2_0_and_3_pairs() {
     let lines = [line(false, 0, &pairs(2)), line(false, 1, &[]), line(false, 2, &pairs(3))];
-    let room = finished(ty::MULTI_LINE_STRING, false, &framed(ty::MULTI_LINE_STRING, false, 0, &lines));
-    assert_eq!(room.record(0), pools_only((0, 10), Some((0, 3))));
-    assert_eq!(room.ends[..3], [2, 2, 5]);
+    let given = framed(ty::MULTI_LINE_STRING, false, 0, &lines);
+    for mut room in finished(ty::MULTI_LINE_STRING, false, &given) {
+        assert_eq!(room.record(0), pools_only((0, 10), Some((0, 3))));
+        assert_eq!(room.ends[..3], [2, 2, 5]);
+        reads_back(&mut room, ty::MULTI_LINE_STRING, &given);
+    }
 }
 
 #[test]
 fn b5_a_line_promoted_reads_as_one_line() {
-    let mut room = finished(ty::MULTI_LINE_STRING, true, &line(true, 0, &pairs(2)));
-    assert_eq!(room.record(0), pools_only((0, 4), None));
-    let (read, events) = room.read(ty::MULTI_LINE_STRING, 0);
-    assert_eq!(read.answer, Ok(()));
-    assert_eq!(kinds(&events), [5, 2, 64, 64, LINE_END, 37]);
+    for mut room in finished(ty::MULTI_LINE_STRING, true, &line(true, 0, &pairs(2))) {
+        assert_eq!(room.record(0), pools_only((0, 4), None));
+        assert_eq!(said(&mut room, ty::MULTI_LINE_STRING), (Ok(()), vec![5, 2, 64, 64, LINE_END, 37]));
+    }
 }
 
 #[test]
 fn b6_a_line_not_promoted_is_mixed() {
-    let mut state = State::start(ty::MULTI_LINE_STRING, false, false);
-    assert_eq!(Room::of(4, 16).write(&mut state, &line(true, 0, &pairs(2))), Err(Refusal::TypesMixed));
+    for feature in NUMBERS {
+        let mut state = State::start(ty::MULTI_LINE_STRING, false, false);
+        let events = numbered(feature, &line(true, 0, &pairs(2)));
+        assert_eq!(Room::of(4, 16).write(&mut state, &events), Err(Refusal::TypesMixed));
+        assert_eq!(state.feature(), None);
+    }
 }
 
 #[test]
 fn b7_multipolygon_of_no_polygon_is_refused_when_read() {
-    let mut room = finished(ty::MULTI_POLYGON, false, &framed(ty::MULTI_POLYGON, false, 0, &[]));
-    assert_eq!(room.record(0), pools_only((0, 0), None));
-    let (read, _) = room.read(ty::MULTI_POLYGON, 0);
-    assert_eq!((read.answer, read.count), (Err(Refusal::PartsAbsent), 0));
+    for mut room in finished(ty::MULTI_POLYGON, false, &framed(ty::MULTI_POLYGON, false, 0, &[])) {
+        assert_eq!(room.record(0), pools_only((0, 0), None));
+        assert_eq!(said(&mut room, ty::MULTI_POLYGON), (Err(Refusal::PartsAbsent), vec![]));
+    }
 }
 
 #[test]
 fn b8_polygon_in_a_collection_makes_two_parts() {
     let events = framed(ty::GEOMETRY_COLLECTION, false, 0, &[polygon(true, 0, &[pairs(4)])]);
-    let room = finished(ty::GEOMETRY_COLLECTION, false, &events);
-    assert_eq!(room.record(0).parts, Some((1, 2)));
-    assert_eq!(room.record(1), Record { kind: 3, xy: Some((0, 8)), ends: None, parts: None });
-    assert_eq!(room.record(2), Record { kind: 3, xy: Some((8, 0)), ends: None, parts: None });
+    for mut room in finished(ty::GEOMETRY_COLLECTION, false, &events) {
+        assert_eq!(room.record(0).parts, Some((1, 2)));
+        assert_eq!(room.record(1), Record { kind: 3, xy: Some((0, 8)), ends: None, parts: None });
+        assert_eq!(room.record(2), Record { kind: 3, xy: Some((8, 0)), ends: None, parts: None });
+        let two = [7, 3, 2, 64, 64, 64, 64, LINE_END, 35, 3, 2, LINE_END, 35, 39];
+        assert_eq!(said(&mut room, ty::GEOMETRY_COLLECTION), (Ok(()), two.to_vec()));
+    }
 }
 
 #[test]
 fn b9_unknown_collection_of_a_point_has_a_point_as_root() {
-    let point = vec![point_begin(0), Event::xy(1.0, 2.0, 0), Event::end(ty::POINT, false, 0)];
-    let mut room = finished(ty::UNKNOWN, false, &framed(ty::GEOMETRY_COLLECTION, false, 0, &[point]));
-    assert_eq!(room.record(0), Record { kind: 1, xy: None, ends: None, parts: Some((1, 1)) });
-    let (read, events) = room.read(0, 0);
-    assert_eq!((read.answer, kinds(&events)), (Err(Refusal::XyAbsent), vec![1]));
+    let point = vec![point_begin(0), Event::xy(FEATURE, 1.0, 2.0, 0), Event::end(FEATURE, ty::POINT, false, 0)];
+    for mut room in finished(ty::UNKNOWN, false, &framed(ty::GEOMETRY_COLLECTION, false, 0, &[point])) {
+        assert_eq!(room.record(0), Record { kind: 1, xy: None, ends: None, parts: Some((1, 1)) });
+        assert_eq!(said(&mut room, ty::UNKNOWN), (Err(Refusal::XyAbsent), vec![1]));
+    }
 }
 
 #[test]
 fn b10_point_without_a_pair() {
-    let mut room = finished(ty::POINT, false, &[point_begin(0), Event::end(ty::POINT, false, 0)]);
-    let (read, events) = room.read(ty::POINT, 0);
-    assert_eq!((read.answer, kinds(&events)), (Err(Refusal::PastList), vec![1]));
+    for mut room in finished(ty::POINT, false, &[point_begin(0), Event::end(FEATURE, ty::POINT, false, 0)]) {
+        assert_eq!(said(&mut room, ty::POINT), (Err(Refusal::PastList), vec![1]));
+    }
 }
 
 #[test]
@@ -94,8 +129,10 @@ fn b11_ends_that_fall() {
     let mut room = Room::of(1, 16);
     room.put_record(0, ty::MULTI_LINE_STRING, &[(XY, 0, 6), (ENDS, 0, 2)]);
     room.ends[..2].copy_from_slice(&[3, 2]);
-    let (read, events) = room.read(0, 0);
-    assert_eq!((read.answer, kinds(&events)), (Err(Refusal::BadEnd), vec![5, 2, 64, 64, 64, LINE_END]));
+    for feature in NUMBERS {
+        room.feature = feature;
+        assert_eq!(said(&mut room, ty::UNKNOWN), (Err(Refusal::BadEnd), vec![5, 2, 64, 64, 64, LINE_END]));
+    }
 }
 
 fn values(bytes: &[u8], kind: u8) -> (Result<(), Refusal>, Vec<Value<'_>>) {
@@ -130,8 +167,8 @@ fn levels_16_and_17() {
 fn parts_4095_and_4096() {
     let mut room = Room::of(5_000, 16);
     let mut state = State::start(ty::GEOMETRY_COLLECTION, false, false);
-    room.write(&mut state, &[Event::begin(ty::GEOMETRY_COLLECTION, false, 4_096, 0)]).unwrap();
-    let point = |i| [point_begin(i), Event::end(ty::POINT, false, i)];
+    room.write(&mut state, &[Event::begin(FEATURE, ty::GEOMETRY_COLLECTION, false, 4_096, 0)]).unwrap();
+    let point = |i| [point_begin(i), Event::end(FEATURE, ty::POINT, false, i)];
     for i in 0..4_095 {
         room.write(&mut state, &point(i)).unwrap();
     }
@@ -144,11 +181,11 @@ fn parts_4095_and_4096() {
 fn pairs_65536_and_65537() {
     let mut room = Room::of(1, 70_000);
     let mut state = State::start(ty::LINE_STRING, false, false);
-    room.write(&mut state, &[Event::begin(ty::LINE_STRING, true, 65_537, 0)]).unwrap();
+    room.write(&mut state, &[Event::begin(FEATURE, ty::LINE_STRING, true, 65_537, 0)]).unwrap();
     for i in 0..65_536 {
-        room.write(&mut state, &[Event::xy(i as f64, 0.0, i)]).unwrap();
+        room.write(&mut state, &[Event::xy(FEATURE, i as f64, 0.0, i)]).unwrap();
     }
-    assert_eq!(room.write(&mut state, &[Event::xy(0.0, 0.0, 65_536)]), Err(Refusal::NoRoom));
+    assert_eq!(room.write(&mut state, &[Event::xy(FEATURE, 0.0, 0.0, 65_536)]), Err(Refusal::NoRoom));
     assert_eq!(state.finish(&mut room.memory()), Ok(()));
     assert_eq!(room.record(0).xy, Some((0, 131_072)));
 }

@@ -49,7 +49,7 @@ fn a_call_has_the_same_arguments_everywhere() {
     }
 }
 
-const REFUSALS: [Refusal; 17] = [
+const REFUSALS: [Refusal; 18] = [
     Refusal::XyAbsent,
     Refusal::PartsAbsent,
     Refusal::ColumnUnknown,
@@ -67,6 +67,7 @@ const REFUSALS: [Refusal; 17] = [
     Refusal::ValueCut,
     Refusal::NotItsTurn,
     Refusal::ColumnTooLarge,
+    Refusal::OtherFeature,
 ];
 
 /// The number of a name that the header defines.

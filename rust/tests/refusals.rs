@@ -1,7 +1,7 @@
 //! Each refusal, reached; and what a refusal leaves alone.
 mod common;
 use bintolage::{column_type, geometry_type, read_properties, Event, Refusal, State};
-use common::{framed, line, pairs, point_begin, polygon, Room, ENDS, PARTS, XY};
+use common::{framed, line, numbered, pairs, point_begin, polygon, Room, ENDS, FEATURE, PARTS, XY};
 
 fn read_of(kind: u8, lists: &[(usize, u32, u32)]) -> (Result<(), Refusal>, usize) {
     let mut room = Room::of(2, 8);
@@ -41,7 +41,7 @@ fn type_not_a_curve() {
 #[test]
 fn types_mixed() {
     let mut state = State::start(geometry_type::POINT, false, false);
-    let refused = Room::of(1, 1).write(&mut state, &[Event::begin(geometry_type::POLYGON, true, 1, 0)]);
+    let refused = Room::of(1, 1).write(&mut state, &[Event::begin(FEATURE, geometry_type::POLYGON, true, 1, 0)]);
     assert_eq!(refused, Err(Refusal::TypesMixed));
 }
 
@@ -110,7 +110,8 @@ fn no_room() {
     assert_eq!(state.finish(&mut room.memory()), Err(Refusal::NoRoom), "no record for the root");
     assert_eq!(state.property(0, column_type::INT, 0, &[], &mut [0; 5]), Err(Refusal::NoRoom));
     room.xy.truncate(2);
-    assert_eq!(room.write(&mut state, &[Event::end(2, true, 0)]), Err(Refusal::NoRoom), "lent shorter than used");
+    let end = [Event::end(FEATURE, geometry_type::LINE_STRING, true, 0)];
+    assert_eq!(room.write(&mut state, &end), Err(Refusal::NoRoom), "lent shorter than used");
 }
 
 #[test]
@@ -152,13 +153,22 @@ fn column_too_large() {
 }
 
 #[test]
+fn other_feature() {
+    let mut room = Room::of(1, 8);
+    let mut state = State::start(geometry_type::LINE_STRING, false, false);
+    let events = line(true, 0, &pairs(2));
+    room.write(&mut state, &events[..2]).unwrap();
+    assert_eq!(room.write(&mut state, &numbered(FEATURE + 1, &events[2..])), Err(Refusal::OtherFeature));
+}
+
+#[test]
 fn a_refused_event_changes_nothing() {
     let mut room = Room::of(2, 8);
     let mut state = State::start(geometry_type::MULTI_LINE_STRING, false, false);
     let lines = framed(geometry_type::MULTI_LINE_STRING, false, 0, &[line(false, 0, &pairs(8))]);
     room.write(&mut state, &lines[..10]).unwrap();
     let (before, xy, ends) = (state, room.xy.clone(), room.ends.clone());
-    assert_eq!(room.write(&mut state, &[Event::xy(1.0, 2.0, 8)]), Err(Refusal::NoRoom));
+    assert_eq!(room.write(&mut state, &[Event::xy(FEATURE, 1.0, 2.0, 8)]), Err(Refusal::NoRoom));
     assert_eq!((state, &room.xy, &room.ends), (before, &xy, &ends));
 }
 
@@ -166,5 +176,6 @@ fn a_refused_event_changes_nothing() {
 fn words_and_numbers() {
     assert_eq!(Refusal::BadEnd.to_string(), "8: an end that is 2^31 or larger, or less than the end before it");
     assert_eq!(Refusal::ColumnTooLarge.to_string(), "16: column number above 65,535");
+    assert_eq!(Refusal::OtherFeature.to_string(), "17: an event of another feature");
     assert_eq!((Refusal::PartsAbsent.number(), Refusal::ColumnUnknown.number()), (2, 2));
 }

@@ -1,6 +1,6 @@
 mod common;
 use bintolage::{event, geometry_type, read_properties, Event, State, Value, ValueRecord, Writer};
-use common::{framed, line, pairs, polygon, Room};
+use common::{framed, line, pairs, polygon, Room, FEATURE};
 
 #[test]
 fn a_polygon_with_keep_out_rings() {
@@ -31,7 +31,7 @@ fn a_line_with_heights_and_a_nan_that_keeps_its_payload() {
     let mut events = line(true, 0, &pairs(3));
     for (e, i) in events[1..4].iter_mut().zip(0..) {
         let z = f64::from_bits(0x7ff8_0000_0000_0001 + u64::from(i));
-        *e = Event::coordinate(1.0, -0.0, Some(z), None, None, None, i);
+        *e = Event::coordinate(FEATURE, 1.0, -0.0, Some(z), None, None, None, i);
     }
     room.feature(&mut State::start(geometry_type::LINE_STRING, false, false), &events);
     assert_eq!(room.read(geometry_type::LINE_STRING, event::Z).1, events);

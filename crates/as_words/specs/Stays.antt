@@ -11,7 +11,7 @@ use Rattle.kinds.specs.declared.event.Event.{Event}
 use Rattle.kinds.specs.declared.geometry.Lent.{Lent}
 use Rattle.store.specs.Lists.{lentOf}
 use Rattle.store.specs.Records.{recordsLent}
-use Rattle.log.specs.Log.{heard}
+use Rattle.log.specs.Log.{heard, featureIn}
 use Rattle.asking.specs.declared.typing.Typing.{Typing}
 use Rattle.asking.specs.declared.set_type.Typed.{Typed}
 use Rattle.asking.specs.declared.set_type.Typed.the-variants.{Set, Mixed}
@@ -21,8 +21,9 @@ use Rattle.asking.specs.SetType.{withDeclared, withCurrent, withMode, promoted,
 use Rattle.asking.specs.Ask.{ask, noWords, begun, calmed, inCollection, askOf}
 use Rattle.writing.specs.declared.state.State.{State}
 use Rattle.writing.specs.declared.state.Wrote.{Wrote}
-use Rattle.writing.specs.State.{Mem, Outcome, wrote}
+use Rattle.writing.specs.State.{Mem, wrote}
 use Rattle.pending.specs.Room.{hasRoom}
+use Rattle.writing.specs.Due.{each-due}
 use Rattle.writing.specs.Calls.{started, recordsFor, stateAfter, roomOr, decideTyped, decideEvent, eventWith, eventOf, eventCall, finished, decideFinish, finishCall, renewed, decideNext, nextCall}
 use Rattle.runs.specs.Events.{Progress, recordOf, recordsIn, eventsFrom, eventsCall, by-records}
 use Rattle.as_words.specs.Words.{typingOf, stateOf, wordsOf, wordsAfter, wordsAfterAll}
@@ -117,29 +118,29 @@ module _ (s : State) (bytes : Bytes s) where
   wait-bytes true r h = h
   wait-bytes false r h = bytes
 
-  after-bytes : (typed : Typed) (added : Added) (part : Bool) (h : Typing) → InBytes h → Bytes (stateAfter s (ask typed added part) h)
+  after-bytes : (n : ℕ) (typed : Typed) (added : Added) (part : Bool) (h : Typing) → InBytes h → Bytes (stateAfter s n (ask typed added part) h)
   unfolding stateAfter
-  after-bytes typed added true h k = k
-  after-bytes typed added false h k = k
+  after-bytes n typed added true h k = k
+  after-bytes n typed added false h k = k
 
-  typed-bytes : (a : Ask) (room : Bool) (o : Typed) → InBytesIfSet o → Bytes (decideTyped s a room o .state)
-  typed-bytes a room Mixed h = bytes
-  typed-bytes a room (Set g) h = room-bytes room (stateAfter s a g) (after-bytes (a .typed) (a .added) (a .part) g h)
+  typed-bytes : (n : ℕ) (a : Ask) (room : Bool) (o : Typed) → InBytesIfSet o → Bytes (decideTyped s n a room o .state)
+  typed-bytes n a room Mixed h = bytes
+  typed-bytes n a room (Set g) h = room-bytes room (stateAfter s n a g) (after-bytes n (a .typed) (a .added) (a .part) g h)
 
-  decided-bytes : (a : Ask) (records : ℕ) (pools : Lent) → InBytesIfSet (a .typed) → Bytes (decideEvent s a records pools .state)
+  decided-bytes : (n : ℕ) (a : Ask) (records : ℕ) (pools : Lent) → InBytesIfSet (a .typed) → Bytes (decideEvent s n a records pools .state)
   unfolding decideEvent
-  decided-bytes a records pools h =
+  decided-bytes n a records pools h =
       let room : Bool = hasRoom (s .pending) (a .added) (recordsFor s a) records pools in
-      turn-bytes (s .waiting) (decideTyped s a room (a .typed)) (typed-bytes a room (a .typed) h)
+      each-due s n (decideTyped s n a room (a .typed)) (λ (r : Wrote). Bytes (r .state)) bytes bytes (typed-bytes n a room (a .typed) h)
 
-  heard-bytes : (k : Mem) (p : Parsed) → Bytes (eventOf s k p .wrote .state)
+  heard-bytes : (k : Mem) (n : ℕ) (p : Parsed) → Bytes (eventOf s k n p .wrote .state)
   unfolding eventWith
-  heard-bytes k Malformed = bytes
-  heard-bytes k (WellFormed e) = decided-bytes (askOf (s .typing) e) (recordsLent (k .table)) (lentOf (k .pools)) (asked-bytes (s .typing) e bytes)
+  heard-bytes k n Malformed = bytes
+  heard-bytes k n (WellFormed e) = decided-bytes n (askOf (s .typing) e) (recordsLent (k .table)) (lentOf (k .pools)) (asked-bytes (s .typing) e bytes)
 
   pub event-bytes : (k : Mem) (event : List ℕ) → Bytes (eventCall s k event .wrote .state)
   unfolding eventCall
-  event-bytes k event = heard-bytes k (heard event)
+  event-bytes k event = heard-bytes k (featureIn event) (heard event)
 
   pub finish-bytes : (k : Mem) → Bytes (finishCall s k .wrote .state)
   unfolding finishCall decideFinish finished

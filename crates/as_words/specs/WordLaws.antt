@@ -8,15 +8,17 @@ use borrow.Author.Tests.{eq-eqb, ne-eqb}
 use Rattle.kinds.specs.Event.{bitSet}
 use Rattle.runs.specs.declared.took.Took.{Took}
 use Rattle.asking.specs.declared.typing.Typing.{Typing}
+use Rattle.writing.specs.declared.feature.Feature.{Feature}
+use Rattle.writing.specs.declared.feature.Feature.the-variants.{Open, Numbered}
 use Rattle.writing.specs.declared.state.State.{State}
 use Rattle.writing.specs.declared.state.Wrote.{Wrote}
-use Rattle.as_words.specs.Words.{byteOf, typingOf, pendingOf, stateOf, mark, headOf, wordsOfPending, wordsOf, wordsAfter, wordsAfterAll}
+use Rattle.as_words.specs.Words.{byteOf, typingOf, featureBy, pendingOf, stateOf, isNumbered, numberOf, mark, headOf, wordsOfPending, wordsOf, wordsAfter, wordsAfterAll}
 
 pub mark-most : {r : ℕ} (on : Bool) (bit : ℕ) → r ≡ mark on bit → r ≤ bit
 mark-most true bit h = omega arith
 mark-most false bit h = omega arith
 
--- ---- the first word holds four bytes, and its highest three marks
+-- ---- the first word holds four bytes, and its highest four marks
 module _ (a b c d : ℕ) (ha : a < 256) (hb : b < 256) (hc : c < 256) (hd : d < 256) where
   abbrev word : ℕ
   word = a + 256 * b + 65536 * c + 16777216 * d
@@ -33,21 +35,34 @@ module _ (a b c d : ℕ) (ha : a < 256) (hb : b < 256) (hc : c < 256) (hd : d < 
   fourth-byte : byteOf word 16777216 ≡ d
   fourth-byte = omega arith
 
-abbrev marks : Bool → Bool → Bool → ℕ
-marks a b c = mark a 1 + mark b 2 + mark c 4
+abbrev marks : Bool → Bool → Bool → Bool → ℕ
+marks a b c d = mark a 1 + mark b 2 + mark c 4 + mark d 8
 
-marks-most : (a b c : Bool) → marks a b c < 256
-marks-most a b c = omega (arith, mark-most a 1 refl, mark-most b 2 refl, mark-most c 4 refl)
+marks-most : (a b c d : Bool) → marks a b c d < 256
+marks-most a b c d = omega (arith, mark-most a 1 refl, mark-most b 2 refl, mark-most c 4 refl, mark-most d 8 refl)
 
-each-mark : (a b c : Bool) → (bitSet (marks a b c) 1 ≡ a) × (bitSet (marks a b c) 2 ≡ b) × (bitSet (marks a b c) 4 ≡ c)
-each-mark true true true = (refl, refl, refl)
-each-mark true true false = (refl, refl, refl)
-each-mark true false true = (refl, refl, refl)
-each-mark true false false = (refl, refl, refl)
-each-mark false true true = (refl, refl, refl)
-each-mark false true false = (refl, refl, refl)
-each-mark false false true = (refl, refl, refl)
-each-mark false false false = (refl, refl, refl)
+each-mark : (a b c d : Bool) → (bitSet (marks a b c d) 1 ≡ a) × (bitSet (marks a b c d) 2 ≡ b) × (bitSet (marks a b c d) 4 ≡ c) × (bitSet (marks a b c d) 8 ≡ d)
+each-mark true true true true = (refl, refl, refl, refl)
+each-mark true true true false = (refl, refl, refl, refl)
+each-mark true true false true = (refl, refl, refl, refl)
+each-mark true true false false = (refl, refl, refl, refl)
+each-mark true false true true = (refl, refl, refl, refl)
+each-mark true false true false = (refl, refl, refl, refl)
+each-mark true false false true = (refl, refl, refl, refl)
+each-mark true false false false = (refl, refl, refl, refl)
+each-mark false true true true = (refl, refl, refl, refl)
+each-mark false true true false = (refl, refl, refl, refl)
+each-mark false true false true = (refl, refl, refl, refl)
+each-mark false true false false = (refl, refl, refl, refl)
+each-mark false false true true = (refl, refl, refl, refl)
+each-mark false false true false = (refl, refl, refl, refl)
+each-mark false false false true = (refl, refl, refl, refl)
+each-mark false false false false = (refl, refl, refl, refl)
+
+-- ---- a number that is held comes back, and so does none
+feature-back : (f : Feature) → featureBy (isNumbered f) (numberOf f) ≡ f
+feature-back Open = refl
+feature-back (Numbered n) = refl
 
 -- ---- a state's three bytes are bytes, as those of a value of its type are
 pub record InBytes (h : Typing) : Type 0 where
@@ -59,9 +74,10 @@ pub state-words : (s : State) → InBytes (s .typing) → stateOf (wordsOf s) �
 unfolding stateOf wordsOf wordsOfPending typingOf pendingOf headOf
 state-words s bytes =
     let h = s .typing in
-    let d : ℕ = marks (h .detect) (h .promote) (s .waiting) in
-    let most : d < 256 = marks-most (h .detect) (h .promote) (s .waiting) in
-    let each = each-mark (h .detect) (h .promote) (s .waiting) in
+    let held : Bool = isNumbered (s .feature) in
+    let d : ℕ = marks (h .detect) (h .promote) (s .waiting) held in
+    let most : d < 256 = marks-most (h .detect) (h .promote) (s .waiting) held in
+    let each = each-mark (h .detect) (h .promote) (s .waiting) held in
     rw (
       first-byte (h .declared) (h .current) (h .mode) d (bytes .declared) (bytes .current) (bytes .mode) most,
       second-byte (h .declared) (h .current) (h .mode) d (bytes .declared) (bytes .current) (bytes .mode) most,
@@ -70,6 +86,8 @@ state-words s bytes =
       each .0,
       each .1,
       each .2,
+      each .3,
+      feature-back (s .feature),
     )
 
 -- ---- a call's words

@@ -5,11 +5,12 @@ use kinds::refusal;
 use pending::words::Pending;
 use pending::words::Words;
 use runs::Took;
+use writing::feature::Feature;
 use writing::state::State;
 use writing::state::Wrote;
 ghost use mathlib.Core.Path.{_≡_};
 ghost use Prim.Native.Nat.{_<_};
-ghost use Rattle.as_words.specs.Words.{byteOf, typingOf, pendingOf, stateOf, mark, headOf, wordsOf, wordsAfter, wordsAfterAll};
+ghost use Rattle.as_words.specs.Words.{byteOf, typingOf, featureBy, pendingOf, stateOf, isNumbered, numberOf, mark, headOf, wordsOf, wordsAfter, wordsAfterAll};
 
 // How many words a state has. The header and the Rust wrapper have this number once each, too.
 pub const STATE_WORDS: usize = 16;
@@ -20,6 +21,9 @@ pub type StateWords = [u32; STATE_WORDS];
 const PARTS: usize = 1;
 
 pub const PROPERTIES: usize = 2;
+
+// Where it has the number of the feature in hand, if there is one.
+const FEATURE: usize = 3;
 
 // What each byte of the first word counts for there; the highest holds the marks.
 const CURRENT: u32 = 256;
@@ -33,6 +37,8 @@ pub const DETECT: u8 = 1;
 pub const PROMOTE: u8 = 2;
 
 const WAITING: u8 = 4;
+
+const NUMBERED: u8 = 8;
 
 fn byte_of(word: u32, unit: u32) -> u8
     requires { ⌜ 0 < unit ⌝ }
@@ -59,6 +65,16 @@ pub fn declared_of(words: &StateWords) -> u8
     ensures { λ r. ⌜ r ≡ stateOf (now (words .entry)) .typing .declared ⌝ }
 {
     byte_of(words[0], 1)
+}
+
+fn feature_by(numbered: bool, number: u32) -> Feature
+    ensures { λ r. ⌜ r ≡ featureBy numbered number ⌝ }
+{
+    if numbered {
+        Feature::Numbered(number)
+    } else {
+        Feature::Open
+    }
 }
 
 fn pending_of(words: StateWords) -> Pending
@@ -96,13 +112,16 @@ pub fn state_of(words: StateWords) -> State
     ensures { λ r. ⌜ r ≡ stateOf words ⌝ }
 {
     let head = words[0];
+    let marks = byte_of(head, MARKS);
     let typing = typing_of(head);
+    let feature = feature_by(bit_set(marks, NUMBERED), words[FEATURE]);
     let pending = pending_of(words);
     State {
         typing,
-        waiting: bit_set(byte_of(head, MARKS), WAITING),
+        waiting: bit_set(marks, WAITING),
         parts: words[PARTS],
         properties: words[PROPERTIES],
+        feature,
         pending,
     }
 }
@@ -113,12 +132,39 @@ fn mark(on: bool, bit: u8) -> u32
     if on { bit as u32 } else { 0 }
 }
 
-fn head_of(typing: Typing, waiting: bool) -> u32
-    ensures { λ r. ⌜ r ≡ headOf typing waiting ⌝ }
+fn is_numbered(feature: Feature) -> bool
+    ensures { λ r. ⌜ r ≡ isNumbered feature ⌝ }
+{
+    match feature {
+        Feature::Open => false,
+        Feature::Numbered(_) => true,
+    }
+}
+
+// 0 where no feature is in hand.
+fn number_of(feature: Feature) -> u32
+    ensures { λ r. ⌜ r ≡ numberOf feature ⌝ }
+{
+    match feature {
+        Feature::Open => 0,
+        Feature::Numbered(n) => n,
+    }
+}
+
+// The number of the feature in hand, 0 where there is none.
+pub fn feature_of(words: &StateWords) -> u32
+    ensures { λ r. ⌜ r ≡ numberOf (stateOf (now (words .entry)) .feature) ⌝ }
+{
+    number_of(feature_by(bit_set(byte_of(words[0], MARKS), NUMBERED), words[FEATURE]))
+}
+
+fn head_of(typing: Typing, waiting: bool, numbered: bool) -> u32
+    ensures { λ r. ⌜ r ≡ headOf typing waiting numbered ⌝ }
 {
     let marks = mark(typing.detect, DETECT)
         + mark(typing.promote, PROMOTE)
-        + mark(waiting, WAITING);
+        + mark(waiting, WAITING)
+        + mark(numbered, NUMBERED);
     (typing.declared as u32)
         + CURRENT * (typing.current as u32)
         + MODE * (typing.mode as u32)
@@ -128,11 +174,12 @@ fn head_of(typing: Typing, waiting: bool) -> u32
 pub fn words_of(s: State) -> StateWords
     ensures { λ r. ⌜ r ≡ wordsOf s ⌝ }
 {
+    let feature = s.feature;
     [
-        head_of(s.typing, s.waiting),
+        head_of(s.typing, s.waiting, is_numbered(feature)),
         s.parts,
         s.properties,
-        0,
+        number_of(feature),
         s.pending.xy.start,
         s.pending.xy.count,
         s.pending.ends.start,

@@ -5,6 +5,7 @@ use as_words::state::keep_all;
 use as_words::state::state_of;
 use as_words::state::words_of;
 use bbox::edges_of;
+use kinds::event::Bare;
 use kinds::flags::Flags;
 ghost use mathlib.Core.Path.{_≡_};
 ghost use Rattle.laws.specs.Cut.{Said};
@@ -33,7 +34,7 @@ pub extern "C" fn bintolage_start(state: &mut StateWords, declared: u8, detect: 
     *state = first;
 }
 
-// Takes an event's record. Refused: 11, 15, 5, 12.
+// Takes an event's record. Refused: 11, 15, 17, 5, 12.
 #[no_mangle]
 pub extern "C" fn bintolage_event(
     state: &mut StateWords,
@@ -53,11 +54,18 @@ pub extern "C" fn bintolage_event(
         ⌜ kept r (now (state .exit)) after ≡ keptOf words (eventCall (stateOf words) before (now (event .entry))) ⌝ }
 {
     let before = *state;
+    // A pair by itself is the commonest call, and with a keep of its own the state's words are packed in registers.
+    let bare = log::hear_bare(event);
+    if let Bare::Pair { x, y } = bare {
+        let n = log::feature_in(event);
+        let wrote = writer::pair(state_of(before), n, x, y, table, xy, ends, z, m, t, tm);
+        return keep(state, wrote);
+    }
     let taken = writer::event(state_of(before), event, table, xy, ends, z, m, t, tm);
     keep(state, taken)
 }
 
-// Takes events' records one after the other, until one is refused, and says how many. Refused: 11, 15, 5, 12.
+// Takes events' records one after the other, until one is refused, and says how many. Refused: 11, 15, 17, 5, 12.
 #[no_mangle]
 pub extern "C" fn bintolage_events(
     state: &mut StateWords,
@@ -152,7 +160,7 @@ pub extern "C" fn bintolage_next(
     keep(state, renewed)
 }
 
-// The tree whose root is record 0, as events from the log's start, and how many.
+// The tree whose root is record 0, as events from the log's start, each under the feature's number, and how many.
 #[no_mangle]
 pub extern "C" fn bintolage_read(
     table: &[u8],
@@ -164,12 +172,13 @@ pub extern "C" fn bintolage_read(
     tm: &[u64],
     declared: u8,
     flags: u8,
+    feature: u32,
     log: &mut [u8],
     count: &mut u32,
 ) -> u8
     ensures { λ r. let P = poolsOf (now (xy .entry)) (now (ends .entry)) (now (z .entry)) (now (m .entry)) (now (t .entry)) (now (tm .entry)) in
         let script = readS (flagsOf flags) (recordWith (now (table .entry)) P) declared in
-        ⌜ Said eventRecords script (now (log .entry)) r (now (count .exit)) (now (log .exit)) ⌝ }
+        ⌜ Said (eventRecords feature) script (now (log .entry)) r (now (count .exit)) (now (log .exit)) ⌝ }
 {
     let read = reader::read(
         table,
@@ -181,6 +190,7 @@ pub extern "C" fn bintolage_read(
         tm,
         declared,
         Flags::of(flags),
+        feature,
         log,
     );
     *count = read.count as u32;

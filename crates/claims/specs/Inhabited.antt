@@ -1,4 +1,4 @@
--- Rows of the calls there are: two fields one after the other, the first with a keep-out ring; a field in two blocks, behind a refused call and a property; many events in one call, which stops at a refusal.
+-- Rows of the calls there are: two fields one after the other, the first with a keep-out ring, each under a number of its own; a field in two blocks, behind a refused call and a property; many events in one call, which stops at a refusal, of mixed types or of another feature.
 use mathlib.Core.Path.{_≡_, refl, sym, ap, _∙_}
 use mathlib.Core.Bool.{true, false}
 use mathlib.Core.List.{List, [], _∷_, _++_, append-nil, append-assoc}
@@ -11,9 +11,9 @@ use Rattle.laws.specs.Every.{both}
 use Rattle.laws.specs.Cut.{bytesOf}
 use Rattle.kinds.specs.Event.{beginE, endE, xyE, wellFormed, WellFormed}
 use Rattle.kinds.specs.declared.event.Event.{Event}
-use Rattle.event_layout.specs.Event.{eventBytes, eventOf, spareZero, readEvent}
+use Rattle.event_layout.specs.Event.{eventBytes, eventOf, featureOf, spareZero, readEvent}
 use Rattle.store.specs.Lists.{lentOf}
-use Rattle.log.specs.Log.{events, heard}
+use Rattle.log.specs.Log.{events, heard, featureIn}
 use Rattle.store.specs.Records.{recordsLent, tableGood}
 use Rattle.reader.specs.Examples.{noFlags}
 use Rattle.writing.specs.declared.state.State.{State}
@@ -22,7 +22,7 @@ use Rattle.asking.specs.SetType.{setType}
 use Rattle.asking.specs.Ask.{askOf, begun}
 use Rattle.pending.specs.Room.{hasRoom}
 use Rattle.pending.specs.Growth.{grownAll, pastAll}
-use Rattle.writing.specs.Calls.{started, stateAfter, decideEvent, tableAfter, memAfter, eventWith, eventCall, finished, decideFinish, finishCall, renewed, decideNext, nextCall}
+use Rattle.writing.specs.Calls.{started, stateAfter, ifDue, decideEvent, tableAfter, memAfter, eventWith, eventCall, finished, decideFinish, finishCall, renewed, decideNext, nextCall}
 use Rattle.property_value.specs.Column.{widthOf, isText}
 use Rattle.property_value.specs.Value.{malformed, textOk}
 use Rattle.property_writer.specs.Writing.{laidDown, propertyBytes, refusalOf, putOf, bytesAfter}
@@ -40,12 +40,12 @@ use Rattle.writer_model.specs.Call.{eventC, finishC, nextC}
 use Rattle.writer_model.specs.Pairs.{pairOf, pendingAt}
 use Rattle.writer_model.specs.Rows.{Reached, start as begins}
 use Rattle.writer_model.specs.Feature.{finishesIn, finishedMem, nextMem, finishes-same, whole-same, done, finished-is, finish-lengths, goes-on, renewed-is, next-lengths}
-use Rattle.writer_model.specs.Fed.{given, takes, fedTo, fedMem, pairsOf, first-done, first-heard, takes-rest, fed-rest}
+use Rattle.writer_model.specs.Fed.{given, takes, fedTo, fedMem, pairsOf, first-done, first-heard, first-numbered, takes-rest, fed-rest}
 use Rattle.geometries.specs.Geometry.{Coord, Line, Simple, polygon, multiPolygon}
 use Rattle.geometries.specs.Events.{eventsOf}
 use Rattle.format.specs.Writable.{All, Has, a-polygon, many-polygons}
 use Rattle.least.specs.Sized.{InWords, words-tested}
-use Rattle.claims.specs.Row.{Lends, lends, event, events as many, property, finish, next, leaves, accepts, heardFrom, Accepted, nothing, withEvents, withProperty, withFinish, withNext, tookAll, put, bytesPut, Row, start, lent, call, untaken}
+use Rattle.claims.specs.Row.{Lends, lends, event, events as many, property, finish, next, leaves, accepts, heardFrom, eventsIn, allUnder, Accepted, nothing, withEvents, withProperty, withFinish, withNext, tookAll, put, bytesPut, Row, start, lent, call, untaken}
 use Rattle.claims.specs.Linked.{made, call-state, put-state, untaken-state, row-reached}
 use Rattle.claims.specs.Demand.{Demanded, AllDemanded, Repeats, featureSteps, passed, demand-three}
 
@@ -59,13 +59,13 @@ module _ (declared detect promote : ℕ) where
   at-start : (l : Lends) → declared < 256 → At (started declared (yes detect) (yes promote)) l nothing
   at-start l small = record { words = _; holds = state-words _ (started-bytes declared (yes detect) (yes promote) small); row = start l small }
 
-  event-done : {words : List ℕ} {l : Lends} {a : Accepted} (e : Event) (bytes : List ℕ) → heard bytes ≡ WellFormed e → eventCall (stateOf words) (l .mem) bytes .wrote .number ≡ 0 → Row declared detect promote words l a
-      → At (eventCall (stateOf words) (l .mem) bytes .wrote .state) (lends (eventCall (stateOf words) (l .mem) bytes .mem) (l .buffer)) (withEvents a (e ∷ []))
+  event-done : {words : List ℕ} {l : Lends} {a : Accepted} (n : ℕ) (e : Event) (bytes : List ℕ) → heard bytes ≡ WellFormed e → featureIn bytes ≡ n → eventCall (stateOf words) (l .mem) bytes .wrote .number ≡ 0 → Row declared detect promote words l a
+      → At (eventCall (stateOf words) (l .mem) bytes .wrote .state) (lends (eventCall (stateOf words) (l .mem) bytes .mem) (l .buffer)) (withEvents a ((n, e) ∷ []))
   unfolding keptOf
-  event-done {words} {l} {a} e bytes hears done row = record {
+  event-done {words} {l} {a} n e bytes hears number done row = record {
     words = _;
     holds = call-state words (l .mem) (eventC bytes);
-    row = rw (eq-eqb _ 0 done, hears) at (call (event bytes) row);
+    row = rw (eq-eqb _ 0 done, hears, number) at (call (event bytes) row);
   }
 
   finish-done : {words : List ℕ} {l : Lends} {a : Accepted} → finishCall (stateOf words) (l .mem) .wrote .number ≡ 0 → Row declared detect promote words l a
@@ -108,50 +108,52 @@ module _ (declared detect promote : ℕ) where
   with-none : (a : Accepted) → a ≡ withEvents a []
   with-none a = λ i. record { steps = sym (append-nil (a .steps)) i; pairs = sym (append-nil (a .pairs)) i; properties = a .properties }
 
-  with-more : (a : Accepted) (e : Event) (es : List Event) → withEvents (withEvents a (e ∷ [])) es ≡ withEvents a (e ∷ es)
+  with-more : (a : Accepted) (e : ℕ × Event) (es : List (ℕ × Event)) → withEvents (withEvents a (e ∷ [])) es ≡ withEvents a (e ∷ es)
   with-more a e es = λ i. record {
     steps = append-assoc (a .steps) (tookAll (e ∷ [])) (tookAll es) i;
-    pairs = (ap (λ (l : List ℕ). (a .pairs ++ l) ++ pairsOf es) (append-nil (pairOf e)) ∙ append-assoc (a .pairs) (pairOf e) (pairsOf es)) i;
+    pairs = (ap (λ (l : List ℕ). (a .pairs ++ l) ++ pairsOf (eventsIn es)) (append-nil (pairOf (e .1))) ∙ append-assoc (a .pairs) (pairOf (e .1)) (pairsOf (eventsIn es))) i;
     properties = a .properties;
   }
 
   -- the first of several
-  module _ (e : Event) (es : List Event) (s : State) (k : Mem) (h : takes s (recordsLent (k .table)) (lentOf (k .pools)) (e ∷ es) ≡ true) (buffer : List ℕ) (a : Accepted) where
-    abbrev one : Outcome
-    one = given s k e
+  module _ (n : ℕ) (fits : n < 4294967296) where
+    module _ (e : Event) (es : List Event) (s : State) (k : Mem) (h : takes s n (recordsLent (k .table)) (lentOf (k .pools)) (e ∷ es) ≡ true) (buffer : List ℕ) (a : Accepted) where
+      abbrev one : Outcome
+      one = given s n k e
 
-    at-first : At s (lends k buffer) a → At (one .wrote .state) (lends (one .mem) buffer) (withEvents a (e ∷ []))
-    unfolding eventCall
-    at-first r =
-        let hears = first-heard e es s k h in
-        rw (r .holds, hears) at (event-done e (events .bytes e) hears (rw (r .holds, hears) (first-done e es s k h)) (r .row))
+      at-first : At s (lends k buffer) a → At (one .wrote .state) (lends (one .mem) buffer) (withEvents a ((n, e) ∷ []))
+      unfolding eventCall
+      at-first r =
+          let hears = first-heard e es s n k h in
+          let number = first-numbered e es s n k h fits in
+          rw (r .holds, hears, number) at (event-done n e (events n .bytes e) hears number (rw (r .holds, hears, number) (first-done e es s n k h)) (r .row))
 
-    at-rest : At (fedTo (one .wrote .state) (one .mem) es) (lends (fedMem (one .wrote .state) (one .mem) es) buffer) (withEvents (withEvents a (e ∷ [])) es)
-        → At (fedTo s k (e ∷ es)) (lends (fedMem s k (e ∷ es)) buffer) (withEvents a (e ∷ es))
-    at-rest r = rw (fed-rest e es s k h, with-more a e es) at r
+      at-rest : At (fedTo (one .wrote .state) n (one .mem) es) (lends (fedMem (one .wrote .state) n (one .mem) es) buffer) (withEvents (withEvents a ((n, e) ∷ [])) (allUnder n es))
+          → At (fedTo s n k (e ∷ es)) (lends (fedMem s n k (e ∷ es)) buffer) (withEvents a (allUnder n (e ∷ es)))
+      at-rest r = rw (fed-rest e es s n k h, with-more a (n, e) (allUnder n es)) at r
 
-  at-all : (es : List Event) (s : State) (k : Mem) (buffer : List ℕ) (a : Accepted) → takes s (recordsLent (k .table)) (lentOf (k .pools)) es ≡ true → At s (lends k buffer) a
-      → At (fedTo s k es) (lends (fedMem s k es) buffer) (withEvents a es)
-  at-all [] s k buffer a h r = rw (← (with-none a)) r
-  at-all (e ∷ es) s k buffer a h r =
-      at-rest e es s k h buffer a (at-all es (given s k e .wrote .state) (given s k e .mem) buffer (withEvents a (e ∷ [])) (takes-rest e es s k h) (at-first e es s k h buffer a r))
+    at-all : (es : List Event) (s : State) (k : Mem) (buffer : List ℕ) (a : Accepted) → takes s n (recordsLent (k .table)) (lentOf (k .pools)) es ≡ true → At s (lends k buffer) a
+        → At (fedTo s n k es) (lends (fedMem s n k es) buffer) (withEvents a (allUnder n es))
+    at-all [] s k buffer a h r = rw (← (with-none a)) r
+    at-all (e ∷ es) s k buffer a h r =
+        at-rest e es s k h buffer a (at-all es (given s n k e .wrote .state) (given s n k e .mem) buffer (withEvents a ((n, e) ∷ [])) (takes-rest e es s n k h) (at-first e es s k h buffer a r))
 
-  -- ---- a feature up to its finish, and next
-  module _ (es : List Event) (s : State) (k : Mem) (buffer : List ℕ) (a : Accepted) (ok : finishesIn s k es ≡ true) (r : At s (lends k buffer) a) where
-    reached-at : Reached s k (made (fresh declared (yes detect) (yes promote)) (a .steps)) (a .pairs)
-    reached-at = rw (r .holds) at (row-reached declared detect promote (r .row))
+    -- ---- a feature up to its finish, and next
+    module _ (es : List Event) (s : State) (k : Mem) (buffer : List ℕ) (a : Accepted) (ok : finishesIn s n k es ≡ true) (r : At s (lends k buffer) a) where
+      reached-at : Reached s k (made (fresh declared (yes detect) (yes promote)) (a .steps)) (a .pairs)
+      reached-at = rw (r .holds) at (row-reached declared detect promote (r .row))
 
-    at-finish : At (finished (fedTo s k es)) (lends (finishedMem s k es) buffer) (withFinish (withEvents a es))
-    at-finish =
-        let all = at-all es s k buffer a (both (takes s (recordsLent (k .table)) (lentOf (k .pools)) es) _ ok .0) r in
-        rw (all .holds, finished-is s k _ _ es ok reached-at) at (finish-done (rw (all .holds) (done s k _ _ es ok reached-at)) (all .row))
+      at-finish : At (finished (fedTo s n k es)) (lends (finishedMem s n k es) buffer) (withFinish (withEvents a (allUnder n es)))
+      at-finish =
+          let all = at-all es s k buffer a (both (takes s n (recordsLent (k .table)) (lentOf (k .pools)) es) _ ok .0) r in
+          rw (all .holds, finished-is s n k _ _ es fits ok reached-at) at (finish-done (rw (all .holds) (done s n k _ _ es fits ok reached-at)) (all .row))
 
-    at-next : decideNext (finished (fedTo s k es)) (recordsLent (k .table)) (lentOf (k .pools)) .number ≡ 0
-        → At (renewed (finished (fedTo s k es))) (lends (nextMem s k es) buffer) (withNext (withFinish (withEvents a es)) (pendingAt (finished (fedTo s k es) .pending .xy) (finishedMem s k es .pools .xy)))
-    at-next goes = rw (at-finish .holds, renewed-is s k _ _ es ok reached-at goes) at (next-done (rw (at-finish .holds) (goes-on s k _ _ es ok reached-at goes)) (at-finish .row))
+      at-next : decideNext (finished (fedTo s n k es)) (recordsLent (k .table)) (lentOf (k .pools)) .number ≡ 0
+          → At (renewed (finished (fedTo s n k es))) (lends (nextMem s n k es) buffer) (withNext (withFinish (withEvents a (allUnder n es))) (pendingAt (finished (fedTo s n k es) .pending .xy) (finishedMem s n k es .pools .xy)))
+      at-next goes = rw (at-finish .holds, renewed-is s n k _ _ es fits ok reached-at goes) at (next-done (rw (at-finish .holds) (goes-on s n k _ _ es fits ok reached-at goes)) (at-finish .row))
 
-    repeats : (fs : List Simple) (f : Simple) → AllDemanded declared fs → Demanded declared f → withFinish (withEvents a es) .steps ≡ passed fs ++ featureSteps f → tableGood (k .table) ≡ true → Repeats declared f (finishedMem s k es)
-    repeats fs f ds d so-far whole = demand-three declared detect promote fs f ds d (at-finish .row) so-far (whole-same k _ (finish-lengths s k _ _ es ok reached-at) whole)
+      repeats : (fs : List (ℕ × Simple)) (f : Simple) → AllDemanded declared fs → Demanded declared f → withFinish (withEvents a (allUnder n es)) .steps ≡ passed fs ++ featureSteps n f → tableGood (k .table) ≡ true → Repeats declared n f (finishedMem s n k es)
+      repeats fs f ds d so-far whole = demand-three declared detect promote fs n f ds d (at-finish .row) so-far (whole-same k _ (finish-lengths s n k _ _ es fits ok reached-at) whole)
 
 -- ---- two fields
 abbrev at : ℕ → ℕ → Coord
@@ -187,33 +189,34 @@ room = blank 1 16 2
 abbrev first : List Event
 first = eventsOf noFlags 0 field
 
-first-ok : finishesIn begin room first ≡ true
-unfolding eventsOf started askOf begun setType hasRoom grownAll pastAll stateAfter decideEvent decideFinish wellFormed beginE endE xyE
+-- the first under number 7, the second under number 8
+first-ok : finishesIn begin 7 room first ≡ true
+unfolding eventsOf started askOf begun setType hasRoom grownAll pastAll stateAfter decideEvent ifDue decideFinish wellFormed beginE endE xyE
 first-ok = refl
 
-goes : decideNext (finished (fedTo begin room first)) (recordsLent (room .table)) (lentOf (room .pools)) .number ≡ 0
-unfolding eventsOf started askOf begun setType hasRoom grownAll pastAll stateAfter decideEvent finished decideNext beginE endE xyE
+goes : decideNext (finished (fedTo begin 7 room first)) (recordsLent (room .table)) (lentOf (room .pools)) .number ≡ 0
+unfolding eventsOf started askOf begun setType hasRoom grownAll pastAll stateAfter decideEvent ifDue finished decideNext beginE endE xyE
 goes = refl
 
 -- after the first field's next
 abbrev again : State
-again = renewed (finished (fedTo begin room first))
+again = renewed (finished (fedTo begin 7 room first))
 
 abbrev over : Mem
-over = nextMem begin room first
+over = nextMem begin 7 room first
 
-again-ok : finishesIn again over (eventsOf noFlags 0 other) ≡ true
-unfolding eventsOf started askOf begun setType hasRoom grownAll pastAll stateAfter decideEvent finished decideFinish renewed wellFormed beginE endE xyE
-again-ok = finishes-same again (eventsOf noFlags 0 other) room over (next-lengths begin room _ _ first first-ok (begins 3 false false room) goes) refl
+again-ok : finishesIn again 8 over (eventsOf noFlags 0 other) ≡ true
+unfolding eventsOf started askOf begun setType hasRoom grownAll pastAll stateAfter decideEvent ifDue finished decideFinish renewed wellFormed beginE endE xyE
+again-ok = finishes-same again 8 (eventsOf noFlags 0 other) room over (next-lengths begin 7 room _ _ first (omega arith) first-ok (begins 3 false false room) goes) refl
 
-pub field-repeats : Repeats 3 field (finishedMem begin room first)
-field-repeats = repeats 3 0 0 first begin room [] nothing first-ok (at-start 3 0 0 (lends room []) (omega arith)) [] field tt field-demanded refl refl
+pub field-repeats : Repeats 3 7 field (finishedMem begin 7 room first)
+field-repeats = repeats 3 0 0 7 (omega arith) first begin room [] nothing first-ok (at-start 3 0 0 (lends room []) (omega arith)) [] field tt field-demanded refl refl
 
-pub other-repeats : Repeats 3 other (finishedMem again over (eventsOf noFlags 0 other))
+pub other-repeats : Repeats 3 8 other (finishedMem again 8 over (eventsOf noFlags 0 other))
 unfolding eventsOf
 other-repeats =
-    let so-far = at-next 3 0 0 first begin room [] nothing first-ok (at-start 3 0 0 (lends room []) (omega arith)) goes in
-    repeats 3 0 0 (eventsOf noFlags 0 other) again over [] _ again-ok so-far (field ∷ []) other (field-demanded, tt) other-demanded refl (whole-same room over (next-lengths begin room _ _ first first-ok (begins 3 false false room) goes) refl)
+    let so-far = at-next 3 0 0 7 (omega arith) first begin room [] nothing first-ok (at-start 3 0 0 (lends room []) (omega arith)) goes in
+    repeats 3 0 0 8 (omega arith) (eventsOf noFlags 0 other) again over [] _ again-ok so-far ((7, field) ∷ []) other (field-demanded, tt) other-demanded refl (whole-same room over (next-lengths begin 7 room _ _ first (omega arith) first-ok (begins 3 false false room) goes) refl)
 
 -- ---- a field in two blocks, the first with a keep-out ring
 abbrev pub blocks : Simple
@@ -246,20 +249,20 @@ depth-taken : propertyCall declared-blocks 0 5 7 [] fresh-buffer .number ≡ 0
 unfolding propertyCall putOf refusalOf malformed textOk propertyBytes laidDown widthOf isText started
 depth-taken = refl
 
-blocks-ok : finishesIn after-depth wide (eventsOf noFlags 0 blocks) ≡ true
-unfolding eventsOf propertyCall putOf started askOf begun setType hasRoom grownAll pastAll stateAfter decideEvent decideFinish wellFormed beginE endE xyE
+blocks-ok : finishesIn after-depth 4294967295 wide (eventsOf noFlags 0 blocks) ≡ true
+unfolding eventsOf propertyCall putOf started askOf begun setType hasRoom grownAll pastAll stateAfter decideEvent ifDue decideFinish wellFormed beginE endE xyE
 blocks-ok = refl
 
-pub blocks-repeat : Repeats 6 blocks (finishedMem after-depth wide (eventsOf noFlags 0 blocks))
+pub blocks-repeat : Repeats 6 4294967295 blocks (finishedMem after-depth 4294967295 wide (eventsOf noFlags 0 blocks))
 blocks-repeat =
     let begun-row = at-lent 6 0 0 (lends wide fresh-buffer) (at-refused 6 0 0 (blank 0 0 0) (no-event (blank 0 0 0)) (at-start 6 0 0 (lends (blank 0 0 0) []) (omega arith))) in
-    repeats 6 0 0 (eventsOf noFlags 0 blocks) after-depth wide _ _ blocks-ok (at-property 6 0 0 depth depth-taken begun-row) [] blocks tt blocks-demanded refl refl
+    repeats 6 0 0 4294967295 (omega arith) (eventsOf noFlags 0 blocks) after-depth wide _ _ blocks-ok (at-property 6 0 0 depth depth-taken begun-row) [] blocks tt blocks-demanded refl refl
 
 -- what the first field is read from is words
-pub field-words : InWords (finishedMem begin room first .pools)
-unfolding eventsOf started askOf begun setType hasRoom grownAll pastAll stateAfter decideEvent eventWith memAfter tableAfter finishCall decideFinish beginE endE xyE
+pub field-words : InWords (finishedMem begin 7 room first .pools)
+unfolding eventsOf started askOf begun setType hasRoom grownAll pastAll stateAfter decideEvent ifDue eventWith memAfter tableAfter finishCall decideFinish beginE endE xyE
 field-words =
-    let P = finishedMem begin room first .pools in
+    let P = finishedMem begin 7 room first .pools in
     record { xy = words-tested (P .xy) refl; z = words-tested (P .z) refl; m = words-tested (P .m) refl; t = words-tested (P .t) refl; tm = words-tested (P .tm) refl }
 
 -- ---- many events in one call: a Point's three, and then the begin of a Polygon, which is refused with 5
@@ -267,22 +270,41 @@ abbrev point-events : List Event
 point-events = beginE 1 false 0 0 ∷ xyE 3 4 0 ∷ endE 1 false 0 ∷ []
 
 pub records : List ℕ
-records = bytesOf events (point-events ++ beginE 3 true 1 0 ∷ [])
+records = bytesOf (events 258) (point-events ++ beginE 3 true 1 0 ∷ [])
 
 abbrev declared-point : List ℕ
 declared-point = wordsOf (started 1 false false)
 
 four-given : (eventsCall (started 1 false false) (blank 0 2 0) records .took .number ≡ 5) × (eventsCall (started 1 false false) (blank 0 2 0) records .took .taken ≡ 3)
-unfolding eventsCall eventsFrom started eventCall eventWith askOf begun setType decideEvent hasRoom stateAfter grownAll memAfter tableAfter heard readEvent eventOf spareZero wellFormed eventBytes events bytesOf beginE xyE endE records
+unfolding eventsCall eventsFrom started eventCall eventWith askOf begun setType decideEvent ifDue hasRoom stateAfter grownAll memAfter tableAfter heard featureIn featureOf readEvent eventOf spareZero wellFormed eventBytes events bytesOf beginE xyE endE records
 four-given = (refl, refl)
 
-three-heard : heardFrom 3 0 records ≡ point-events
-unfolding heard readEvent eventOf spareZero wellFormed eventBytes events bytesOf beginE xyE endE records
+three-heard : heardFrom 3 0 records ≡ allUnder 258 point-events
+unfolding heard featureIn featureOf readEvent eventOf spareZero wellFormed eventBytes events bytesOf beginE xyE endE records
 three-heard = refl
 
 pub stops : let o = leaves declared-point (lends (blank 0 2 0) []) (many records) in let a = accepts declared-point (lends (blank 0 2 0) []) (many records) nothing in
-    (o .number ≡ 5) × (a .steps ≡ tookAll point-events) × Row 1 0 0 (o .words) (o .lends) a
+    (o .number ≡ 5) × (a .steps ≡ tookAll (allUnder 258 point-events)) × Row 1 0 0 (o .words) (o .lends) a
 unfolding takenOf
 stops =
     let state : stateOf declared-point ≡ started 1 false false = state-words (started 1 false false) (started-bytes 1 false false (omega arith)) in
     (rw state (four-given .0), rw (state, four-given .1) (ap tookAll three-heard), call (many records) (start (lends (blank 0 2 0) []) (omega arith)))
+
+-- ---- the same three under number 258, and then a pair under number 2, which agrees with it in the low byte alone: it is refused with 17
+pub two-features : List ℕ
+two-features = bytesOf (events 258) point-events ++ events 2 .bytes (xyE 5 6 1)
+
+another-given : (eventsCall (started 1 false false) (blank 0 2 0) two-features .took .number ≡ 17) × (eventsCall (started 1 false false) (blank 0 2 0) two-features .took .taken ≡ 3)
+unfolding eventsCall eventsFrom started eventCall eventWith askOf begun setType decideEvent ifDue hasRoom stateAfter grownAll memAfter tableAfter heard featureIn featureOf readEvent eventOf spareZero wellFormed eventBytes events bytesOf beginE xyE endE two-features
+another-given = (refl, refl)
+
+own-heard : heardFrom 3 0 two-features ≡ allUnder 258 point-events
+unfolding heard featureIn featureOf readEvent eventOf spareZero wellFormed eventBytes events bytesOf beginE xyE endE two-features
+own-heard = refl
+
+pub stops-at-another : let o = leaves declared-point (lends (blank 0 2 0) []) (many two-features) in let a = accepts declared-point (lends (blank 0 2 0) []) (many two-features) nothing in
+    (o .number ≡ 17) × (a .steps ≡ tookAll (allUnder 258 point-events)) × Row 1 0 0 (o .words) (o .lends) a
+unfolding takenOf
+stops-at-another =
+    let state : stateOf declared-point ≡ started 1 false false = state-words (started 1 false false) (started-bytes 1 false false (omega arith)) in
+    (rw state (another-given .0), rw (state, another-given .1) (ap tookAll own-heard), call (many two-features) (start (lends (blank 0 2 0) []) (omega arith)))

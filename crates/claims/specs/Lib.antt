@@ -1,5 +1,6 @@
 pub mod Row
 pub mod Linked
+pub mod Numbers
 pub mod Demand
 pub mod Stored
 pub mod Inhabited

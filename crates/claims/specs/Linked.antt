@@ -3,7 +3,7 @@ use mathlib.Core.Path.{_≡_, refl, sym, ap, _∙_}
 use mathlib.Core.Bool.{Bool, true, false, cond}
 use mathlib.Core.List.{List, [], _∷_, _++_, append-nil, append-assoc}
 use mathlib.Core.Option.{some}
-use Prim.Native.Nat.{ℕ, zero, suc, _+_}
+use Prim.Native.Nat.{ℕ, suc, _+_}
 use native.Mathlib.Omega.{arith}
 use lib.Dec.{eqb}
 use borrow.Author.Tests.{eqb-true, eqb-false, ne-eqb}
@@ -11,7 +11,7 @@ use Rattle.kinds.specs.declared.event.Event.{Event}
 use Rattle.kinds.specs.Event.{Parsed, WellFormed, Malformed}
 use Rattle.store.specs.Lists.{Rec, recordWith}
 use Rattle.store.specs.Records.{tableGood}
-use Rattle.log.specs.Log.{heard}
+use Rattle.log.specs.Log.{heard, featureIn}
 use Rattle.property_writer.specs.Writing.{putOf}
 use Rattle.properties.specs.RoundTrip.{Property}
 use Rattle.writing.specs.declared.state.State.{State}
@@ -31,25 +31,25 @@ use Rattle.writer_model.specs.Pairs.{pairOf, partsXy, allXyAt}
 use Rattle.writer_model.specs.Rows.{pairIn, pairsAfter, Reached, start as begin, lent as changed, accepted, property as written, row-pairs, accepted-pairs}
 use Rattle.writer_model.specs.Tree.{Holds, row-tree}
 use Rattle.writer_model.specs.Fed.{agrees-self, pairsOf}
-use Rattle.claims.specs.Row.{Call, event, events, property, finish, next, Lends, Step, took, finished, renewed, tookAll, Accepted, withEvents, withProperty, withFinish, withNext, carriedBy, heardIn, heardFrom, put, leaves, accepts, Untaken, Row, start, lent, call, untaken}
+use Rattle.claims.specs.Row.{Call, event, events, property, finish, next, Lends, Step, took, finished, renewed, tookAll, eventsIn, Accepted, withEvents, withProperty, withFinish, withNext, carriedBy, heardIn, heardFrom, put, leaves, accepts, Untaken, Row, start, lent, call, untaken}
 
 -- ---- the writer on lists, after steps
 abbrev pub made : Writer → List Step → Writer
 made w [] = w
-made w (took e ∷ steps) = made (after w e) steps
+made w (took n e ∷ steps) = made (after w e) steps
 made w (finished ∷ steps) = made (finishW w) steps
 made w (renewed ∷ steps) = made (nextW w) steps
 
 pub made-then : (w : Writer) (first second : List Step) → made w (first ++ second) ≡ made (made w first) second
 made-then w [] second = refl
-made-then w (took e ∷ first) second = made-then (after w e) first second
+made-then w (took n e ∷ first) second = made-then (after w e) first second
 made-then w (finished ∷ first) second = made-then (finishW w) first second
 made-then w (renewed ∷ first) second = made-then (nextW w) first second
 
-pub made-events : (w : Writer) (es : List Event) → made w (tookAll es) ≡ afterAll w es
+pub made-events : (w : Writer) (es : List (ℕ × Event)) → made w (tookAll es) ≡ afterAll w (eventsIn es)
 unfolding afterAll
 made-events w [] = refl
-made-events w (e ∷ es) = made-events (after w e) es
+made-events w (e ∷ es) = made-events (after w (e .1)) es
 
 -- ---- the calls that take the table and the pools, on words
 module _ (words : List ℕ) (k : Mem) where
@@ -76,34 +76,35 @@ as-is : {s : State} {k : Mem} {w w′ : Writer} {l l′ : List ℕ} → w ≡ w�
 as-is e f r = rw (e, f) at r
 
 -- ---- many events, up to the first that is refused
-heard-made : (w : Writer) (p : Parsed) (es : List Event) → made (hears w p) (tookAll es) ≡ made w (tookAll (heardIn p ++ es))
-heard-made w Malformed es = refl
-heard-made w (WellFormed e) es = refl
+heard-made : (w : Writer) (n : ℕ) (p : Parsed) (es : List (ℕ × Event)) → made (hears w p) (tookAll es) ≡ made w (tookAll (heardIn n p ++ es))
+heard-made w n Malformed es = refl
+heard-made w n (WellFormed e) es = refl
 
-heard-pairs : (l : List ℕ) (p : Parsed) (es : List Event) → (l ++ pairIn p) ++ pairsOf es ≡ l ++ pairsOf (heardIn p ++ es)
-heard-pairs l Malformed es = ap (λ (x : List ℕ). x ++ pairsOf es) (append-nil l)
-heard-pairs l (WellFormed e) es = append-assoc l (pairOf e) (pairsOf es)
+heard-pairs : (l : List ℕ) (n : ℕ) (p : Parsed) (es : List (ℕ × Event)) → (l ++ pairIn p) ++ pairsOf (eventsIn es) ≡ l ++ pairsOf (eventsIn (heardIn n p ++ es))
+heard-pairs l n Malformed es = ap (λ (x : List ℕ). x ++ pairsOf (eventsIn es)) (append-nil l)
+heard-pairs l n (WellFormed e) es = append-assoc l (pairOf e) (pairsOf (eventsIn es))
 
 record Given (bytes : List ℕ) (i : ℕ) (w : Writer) (l : List ℕ) (p : Progress) : Type 0 where
   count : ℕ
   counted : p .took .taken ≡ i + count
-  reached : Reached (p .took .state) (p .mem) (made w (tookAll (heardFrom count i bytes))) (l ++ pairsOf (heardFrom count i bytes))
+  reached : Reached (p .took .state) (p .mem) (made w (tookAll (heardFrom count i bytes))) (l ++ pairsOf (eventsIn (heardFrom count i bytes)))
 
 given-from : (bytes : List ℕ) (left i : ℕ) (s : State) (k : Mem) (w : Writer) (l : List ℕ) → Reached s k w l → Given bytes i w l (eventsFrom left i bytes s k)
 given-from bytes = by-records bytes (λ i s k p. (w : Writer) (l : List ℕ) → Reached s k w l → Given bytes i w l p)
     (λ number i s k w l r. record { count = 0; counted = omega arith; reached = rw (append-nil l) r })
     (λ i s k p taken more w l r.
     let here : Parsed = heard (recordOf bytes i) in
+    let n : ℕ = featureIn (recordOf bytes i) in
     let g = more (hears w here) (l ++ pairIn here) (accepted (eventC (recordOf bytes i)) taken r) in
-    let rest : List Event = heardFrom (g .count) (i + 1) bytes in
-    record { count = suc (g .count); counted = omega (arith, g .counted); reached = as-is (heard-made w here rest) (heard-pairs l here rest) (g .reached) })
+    let rest : List (ℕ × Event) = heardFrom (g .count) (i + 1) bytes in
+    record { count = suc (g .count); counted = omega (arith, g .counted); reached = as-is (heard-made w n here rest) (heard-pairs l n here rest) (g .reached) })
 
 module _ (words : List ℕ) (k : Mem) (bytes : List ℕ) where
   abbrev came : Progress
   came = eventsCall (stateOf words) k bytes
 
   events-reached : {w : Writer} {l : List ℕ} → Reached (stateOf words) k w l
-      → Reached (stateOf (wordsAfterAll words (came .took))) (came .mem) (made w (tookAll (heardFrom (came .took .taken) 0 bytes))) (l ++ pairsOf (heardFrom (came .took .taken) 0 bytes))
+      → Reached (stateOf (wordsAfterAll words (came .took))) (came .mem) (made w (tookAll (heardFrom (came .took .taken) 0 bytes))) (l ++ pairsOf (eventsIn (heardFrom (came .took .taken) 0 bytes)))
   unfolding eventsCall
   events-reached {w} {l} r =
       let g = given-from bytes (recordsIn bytes) 0 (stateOf words) k w l r in
@@ -142,13 +143,13 @@ module _ (declared detect promote : ℕ) where
   first = fresh declared (yes detect) (yes promote)
 
   -- a step more
-  event-made : (steps : List Step) (p : Parsed) → hears (made first steps) p ≡ made first (steps ++ tookAll (heardIn p))
-  event-made steps Malformed = ap (made first) (sym (append-nil steps))
-  event-made steps (WellFormed e) = sym (made-then first steps (took e ∷ []))
+  event-made : (steps : List Step) (n : ℕ) (p : Parsed) → hears (made first steps) p ≡ made first (steps ++ tookAll (heardIn n p))
+  event-made steps n Malformed = ap (made first) (sym (append-nil steps))
+  event-made steps n (WellFormed e) = sym (made-then first steps (took n e ∷ []))
 
-  event-pairs : (l : List ℕ) (p : Parsed) → l ++ pairIn p ≡ l ++ pairsOf (heardIn p)
-  event-pairs l Malformed = refl
-  event-pairs l (WellFormed e) = ap (λ (x : List ℕ). l ++ x) (sym (append-nil (pairOf e)))
+  event-pairs : (l : List ℕ) (n : ℕ) (p : Parsed) → l ++ pairIn p ≡ l ++ pairsOf (eventsIn (heardIn n p))
+  event-pairs l n Malformed = refl
+  event-pairs l n (WellFormed e) = ap (λ (x : List ℕ). l ++ x) (sym (append-nil (pairOf e)))
 
   module _ (words : List ℕ) (l : Lends) (a : Accepted) (r : Reached (stateOf words) (l .mem) (made first (a .steps)) (a .pairs)) where
     abbrev Then : Call → Type 0
@@ -161,8 +162,8 @@ module _ (declared detect promote : ℕ) where
         o : Outcome
         o = eventCall (stateOf words) (l .mem) bytes
 
-        go : (b : Bool) → eqb (o .wrote .number) 0 ≡ b → let c = cond b (withEvents a (heardIn (heard bytes))) a in Reached (stateOf (wordsAfter words (o .wrote))) (o .mem) (made first (c .steps)) (c .pairs)
-        go true is = as-is (event-made (a .steps) (heard bytes)) (event-pairs (a .pairs) (heard bytes)) (call-done words (l .mem) (eventC bytes) r (eqb-true (o .wrote .number) 0 is))
+        go : (b : Bool) → eqb (o .wrote .number) 0 ≡ b → let c = cond b (withEvents a (heardIn (featureIn bytes) (heard bytes))) a in Reached (stateOf (wordsAfter words (o .wrote))) (o .mem) (made first (c .steps)) (c .pairs)
+        go true is = as-is (event-made (a .steps) (featureIn bytes) (heard bytes)) (event-pairs (a .pairs) (featureIn bytes) (heard bytes)) (call-done words (l .mem) (eventC bytes) r (eqb-true (o .wrote .number) 0 is))
         go false is = call-refused words (l .mem) (eventC bytes) r (eqb-false (o .wrote .number) 0 is)
     call-then (events bytes) = as-is (sym (made-then first (a .steps) _)) refl (events-reached words (l .mem) bytes r)
     call-then (property p) = go (eqb (put words p (l .buffer) .number) 0)

@@ -94,10 +94,10 @@ property-once s column kind bits text buffer r r′ after after′ h k h′ k′
 
 -- ---- the readers
 module _ (number number′ count count′ : ℕ) (log log′ : List ℕ) where
-  pub read-once : (F : Flags) (table : List ℕ) (P : Pools) (declared : ℕ) (L : List ℕ)
-      → Said events (readS F (recordWith table P) declared) L number count log → Said events (readS F (recordWith table P) declared) L number′ count′ log′
+  pub read-once : (F : Flags) (feature : ℕ) (table : List ℕ) (P : Pools) (declared : ℕ) (L : List ℕ)
+      → Said (events feature) (readS F (recordWith table P) declared) L number count log → Said (events feature) (readS F (recordWith table P) declared) L number′ count′ log′
       → (number ≡ number′) × (count ≡ count′) × (log ≡ log′)
-  read-once F table P declared L = said-once events (readS F (recordWith table P) declared) L number number′ count count′ log log′
+  read-once F feature table P declared L = said-once (events feature) (readS F (recordWith table P) declared) L number number′ count count′ log log′
 
   pub read-properties-once : (bytes : List ℕ) (has-columns : Bool) (columns : List ℕ) (stop : ℕ) (L : List ℕ) (at at′ : Bool)
       → run values (reading bytes has-columns columns stop) L 0 ≡ out number count log → at ≡ stopped stop (reading bytes has-columns columns stop) number

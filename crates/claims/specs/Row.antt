@@ -7,7 +7,7 @@ use lib.ListN.{take}
 use lib.Dec.{eqb}
 use Rattle.kinds.specs.declared.event.Event.{Event}
 use Rattle.kinds.specs.Event.{Parsed, WellFormed, Malformed}
-use Rattle.log.specs.Log.{heard}
+use Rattle.log.specs.Log.{heard, featureIn}
 use Rattle.property_writer.specs.Writing.{bytesAfter}
 use Rattle.properties.specs.RoundTrip.{Property}
 use Rattle.writing.specs.declared.state.Wrote.{Wrote}
@@ -60,9 +60,9 @@ leaves words l (property p) = let r = put words p (l .buffer) in record { number
 leaves words l finish = keeps (l .buffer) (keptOf words (finishCall (stateOf words) (l .mem)))
 leaves words l next = keeps (l .buffer) (keptOf words (nextCall (stateOf words) (l .mem)))
 
--- ---- what was accepted: events, finishes and nexts since start; the pairs that the last next carried in, and those since; the properties since next
+-- ---- what was accepted: events with their numbers, finishes and nexts since start; the pairs that the last next carried in, and those since; the properties since next
 pub data Step : Type 0 where
-  took : Event → Step
+  took : ℕ → Event → Step
   finished renewed : Step
 
 pub record Accepted : Type 0 where
@@ -73,21 +73,31 @@ pub record Accepted : Type 0 where
 abbrev pub nothing : Accepted
 nothing = record { steps = []; pairs = []; properties = [] }
 
-abbrev pub tookAll : List Event → List Step
+-- events, each with the number of its feature
+abbrev pub tookAll : List (ℕ × Event) → List Step
 tookAll [] = []
-tookAll (e ∷ es) = took e ∷ tookAll es
+tookAll (e ∷ es) = took (e .0) (e .1) ∷ tookAll es
 
-abbrev pub withEvents : Accepted → List Event → Accepted
-withEvents a es = record { steps = a .steps ++ tookAll es; pairs = a .pairs ++ pairsOf es; properties = a .properties }
+abbrev pub eventsIn : List (ℕ × Event) → List Event
+eventsIn [] = []
+eventsIn (e ∷ es) = e .1 ∷ eventsIn es
 
--- the event that a record is, and those of so many records from number i on
-abbrev pub heardIn : Parsed → List Event
-heardIn Malformed = []
-heardIn (WellFormed e) = e ∷ []
+-- all of one number
+abbrev pub allUnder : ℕ → List Event → List (ℕ × Event)
+allUnder n [] = []
+allUnder n (e ∷ es) = (n, e) ∷ allUnder n es
 
-abbrev pub heardFrom : ℕ → ℕ → List ℕ → List Event
+abbrev pub withEvents : Accepted → List (ℕ × Event) → Accepted
+withEvents a es = record { steps = a .steps ++ tookAll es; pairs = a .pairs ++ pairsOf (eventsIn es); properties = a .properties }
+
+-- the event that a record of number n is, and those of so many records from record i on
+abbrev pub heardIn : ℕ → Parsed → List (ℕ × Event)
+heardIn n Malformed = []
+heardIn n (WellFormed e) = (n, e) ∷ []
+
+abbrev pub heardFrom : ℕ → ℕ → List ℕ → List (ℕ × Event)
 heardFrom zero i bytes = []
-heardFrom (suc count) i bytes = heardIn (heard (recordOf bytes i)) ++ heardFrom count (i + 1) bytes
+heardFrom (suc count) i bytes = let one = recordOf bytes i in heardIn (featureIn one) (heard one) ++ heardFrom count (i + 1) bytes
 
 abbrev pub withProperty : Accepted → Property → Accepted
 withProperty a p = record { steps = a .steps; pairs = a .pairs; properties = a .properties ++ p ∷ [] }
@@ -107,7 +117,7 @@ ifDone o then a = cond (eqb (o .number) 0) then a
 
 -- of many events, those before the first that was refused
 abbrev pub accepts : List ℕ → Lends → Call → Accepted → Accepted
-accepts words l (event bytes) a = ifDone (leaves words l (event bytes)) (withEvents a (heardIn (heard bytes))) a
+accepts words l (event bytes) a = ifDone (leaves words l (event bytes)) (withEvents a (heardIn (featureIn bytes) (heard bytes))) a
 accepts words l (events bytes) a = withEvents a (heardFrom (takenBy words (l .mem) bytes .taken) 0 bytes)
 accepts words l (property p) a = ifDone (leaves words l (property p)) (withProperty a p) a
 accepts words l finish a = ifDone (leaves words l finish) (withFinish a) a

@@ -9,7 +9,7 @@ use borrow.Author.Tests.{eqb-true, eqb-false}
 use Rattle.laws.specs.Script.{say}
 use Rattle.laws.specs.Cut.{roomOf, Said}
 use Rattle.kinds.specs.declared.value.Value.{Value}
-use Rattle.log.specs.Log.{heard}
+use Rattle.log.specs.Log.{heard, featureIn}
 use Rattle.log.specs.Values.{values}
 use Rattle.geometries.specs.Told.{told, Complete, said-complete}
 use Rattle.property_writer.specs.Writing.{putOf}
@@ -91,7 +91,7 @@ module _ (declared detect promote : ℕ) where
     unfolding keptOf
     call-then (event bytes) = go (eqb (eventCall (stateOf words) (l .mem) bytes .wrote .number) 0)
       where
-        go : (b : Bool) → Stored (l .buffer) (stateOf (wordsAfter words (eventCall (stateOf words) (l .mem) bytes .wrote)) .properties) (cond b (withEvents a (heardIn (heard bytes))) a .properties)
+        go : (b : Bool) → Stored (l .buffer) (stateOf (wordsAfter words (eventCall (stateOf words) (l .mem) bytes .wrote)) .properties) (cond b (withEvents a (heardIn (featureIn bytes) (heard bytes))) a .properties)
         go true = counts (sym (kept-count words (l .mem) (eventC bytes) refl)) h
         go false = counts (sym (kept-count words (l .mem) (eventC bytes) refl)) h
     call-then (events bytes) = counts (sym (events-count words (l .mem) bytes)) h

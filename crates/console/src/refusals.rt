@@ -21,7 +21,8 @@ no room in a pool, the table or the property bytes|\
 a part at level 17|\
 a property value cut short|\
 not its turn|\
-column number above 65,535",
+column number above 65,535|\
+an event of another feature",
         number,
     );
 }

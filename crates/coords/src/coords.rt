@@ -26,6 +26,7 @@ pub struct Frame {
 
 fn read_coords(
     log: &mut [u8],
+    feature: u32,
     count: usize,
     xy: &[u64],
     z: &[u64],
@@ -38,7 +39,7 @@ fn read_coords(
 ) -> Answer
     requires { ⌜ (length (now xy) ≤ 131072) × (from < 4294967296) ⌝ }
     ensures { λ r. let L = lanesIn seen (now (z .entry)) (now (m .entry)) (now (t .entry)) (now (tm .entry)) in
-        ⌜ run events (coordsS (seen .many) (dropped from L) (now (xy .entry)) 0 last)
+        ⌜ run (events feature) (coordsS (seen .many) (dropped from L) (now (xy .entry)) 0 last)
         (now (log .entry)) count ≡ out (r .number) (r .count) (now (log .exit)) ⌝ }
 {
     let mut said = count;
@@ -58,7 +59,7 @@ fn read_coords(
                 count: said,
             };
         };
-        let r = log::say(log, said, e);
+        let r = log::say(log, feature, said, e);
         if r.number != refusal::DONE {
             return r;
         }
@@ -75,6 +76,7 @@ fn read_coords(
 // A begin, the pairs of a window, an end.
 pub fn read_window(
     log: &mut [u8],
+    feature: u32,
     count: usize,
     xy: &[u64],
     z: &[u64],
@@ -87,10 +89,15 @@ pub fn read_window(
 ) -> Answer
     requires { ⌜ (length (now xy) ≤ 131072) × (w .start ≤ w .end) × (w .end ≤ length (now xy)) × (w .from < 4294967296) × (f .kind < 32) ⌝ }
     ensures { λ r. let W = windowS seen (now (xy .entry)) (now (z .entry)) (now (m .entry)) (now (t .entry)) (now (tm .entry)) w in
-        ⌜ run events (framed (beginE (f .kind) (f .tagged) (f .size) (f .idx)) W (endE (f .kind) (f .tagged) (f .idx)))
+        ⌜ run (events feature) (framed (beginE (f .kind) (f .tagged) (f .size) (f .idx)) W (endE (f .kind) (f .tagged) (f .idx)))
         (now (log .entry)) count ≡ out (r .number) (r .count) (now (log .exit)) ⌝ }
 {
-    let b = log::say(log, count, Event::begin(f.kind, f.tagged, f.size, f.idx));
+    let b = log::say(
+        log,
+        feature,
+        count,
+        Event::begin(f.kind, f.tagged, f.size, f.idx),
+    );
     if b.number != refusal::DONE {
         return b;
     }
@@ -98,6 +105,7 @@ pub fn read_window(
     let end = w.end;
     let r = read_coords(
         log,
+        feature,
         b.count,
         &xy[start..end],
         z,
@@ -111,5 +119,5 @@ pub fn read_window(
     if r.number != refusal::DONE {
         return r;
     }
-    log::say(log, r.count, Event::end(f.kind, f.tagged, f.idx))
+    log::say(log, feature, r.count, Event::end(f.kind, f.tagged, f.idx))
 }

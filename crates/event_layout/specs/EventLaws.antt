@@ -1,8 +1,8 @@
--- An event laid down reads back as itself, and what reads as an event is what laying that event down gives.
-use mathlib.Core.Path.{_≡_, refl, sym, ap, _∙_}
+-- An event laid down under a feature's number reads back as itself, and the number with it; what reads as an event is what laying that event down under that number gives.
+use mathlib.Core.Path.{_≡_, refl, sym, _∙_}
 use mathlib.Core.Bool.{Bool, true, false, cond, _&&_}
 use mathlib.Core.List.{List}
-use Prim.Native.Nat.{ℕ, _+_, _≤_}
+use Prim.Native.Nat.{ℕ, _+_, _≤_, _<_}
 use native.Mathlib.Omega.{arith}
 use lib.ListN.{length, getD, take, drop}
 use lib.Seq.{take-all}
@@ -13,20 +13,20 @@ use Rattle.laws.specs.Bytes.{le, wordAt, Bytes, unle-le, le-part, joined, four-
 use Rattle.kinds.specs.declared.event.Event.{Event}
 use Rattle.kinds.specs.Event.{WellFormed, Malformed, wellFormed, parsed, EventSized}
 use Rattle.event_layout.specs.Head.{headBytes}
-use Rattle.event_layout.specs.Event.{bit, doubleBytes, eventBytes, eventOf, spareZero, readEvent}
+use Rattle.event_layout.specs.Event.{bit, doubleBytes, eventBytes, eventOf, featureOf, spareZero, readEvent}
 
-pub event-length : (e : Event) → length (eventBytes e) ≡ 64
+pub event-length : (feature : ℕ) (e : Event) → length (eventBytes feature e) ≡ 64
 unfolding eventBytes
-event-length e = refl
+event-length feature e = refl
 
 -- ---- there and back
 bit-back : (b : Bool) → eqb (bit b) 1 ≡ b
 bit-back true = refl
 bit-back false = refl
 
-fields-back : (e : Event) → EventSized e → eventOf (eventBytes e) ≡ e
+fields-back : (feature : ℕ) (e : Event) → EventSized e → eventOf (eventBytes feature e) ≡ e
 unfolding eventBytes eventOf
-fields-back e h =
+fields-back feature e h =
     λ i. record {
       kind = e .kind;
       tagged = bit-back (e .tagged) i;
@@ -45,13 +45,17 @@ bit-small : (b : Bool) → leb (bit b) 1 ≡ true
 bit-small true = refl
 bit-small false = refl
 
-spare-back : (e : Event) → spareZero (eventBytes e) ≡ true
+spare-back : (feature : ℕ) (e : Event) → spareZero (eventBytes feature e) ≡ true
 unfolding eventBytes spareZero
-spare-back e = rw (bit-small (e .tagged))
+spare-back feature e = rw (bit-small (e .tagged))
 
-pub event-back : (e : Event) → EventSized e → wellFormed e ≡ true → readEvent (eventBytes e) ≡ WellFormed e
+pub event-back : (feature : ℕ) (e : Event) → EventSized e → wellFormed e ≡ true → readEvent (eventBytes feature e) ≡ WellFormed e
 unfolding readEvent
-event-back e h w = rw (event-length e, spare-back e, fields-back e h, w)
+event-back feature e h w = rw (event-length feature e, spare-back feature e, fields-back feature e h, w)
+
+pub feature-back : (feature : ℕ) (e : Event) → feature < 4294967296 → featureOf (eventBytes feature e) ≡ feature
+unfolding eventBytes featureOf
+feature-back feature e h = unle-le 4 feature h
 
 -- ---- back and there
 byte-bit : (t : ℕ) → leb t 1 ≡ true → bit (eqb t 1) ≡ t
@@ -82,30 +86,23 @@ module _ (l : List ℕ) (bytes : Bytes l) (long : length l ≡ 64) where
     head : headBytes (getD l 0 0) (bit (eqb (getD l 1 0) 1)) (getD l 2 0) ≡ take 4 l
     unfolding spareZero
     head =
-        let s = both (leb (getD l 1 0) 1 && eqb (getD l 3 0) 0) (eqb (wordAt 4 l 12) 0) spare .0 in
-        let t = both (leb (getD l 1 0) 1) (eqb (getD l 3 0) 0) s in
+        let t = both (leb (getD l 1 0) 1) (eqb (getD l 3 0) 0) spare in
         sym (four-at l 0 (omega arith) ∙ rw (byte-bit (getD l 1 0) (t .0), eqb-true (getD l 3 0) 0 (t .1)))
 
-    unused : le 4 0 ≡ take 4 (drop 12 l)
-    unfolding spareZero
-    unused =
-        let s = both (leb (getD l 1 0) 1 && eqb (getD l 3 0) 0) (eqb (wordAt 4 l 12) 0) spare .1 in
-        ap (le 4) (sym (eqb-true (wordAt 4 l 12) 0 s)) ∙ number 4 12 (lit≤ tt)
-
-    fields-forth : eventBytes (eventOf l) ≡ l
-    unfolding eventBytes eventOf
+    fields-forth : eventBytes (featureOf l) (eventOf l) ≡ l
+    unfolding eventBytes eventOf featureOf
     fields-forth =
         joined l 0 16 48
         (joined l 0 12 4
         (joined l 0 8 4
         (joined l 0 4 4 head (number 4 4 (lit≤ tt)))
         (number 4 8 (lit≤ tt)))
-        unused)
+        (number 4 12 (lit≤ tt)))
         doubles
         ∙ take-all 64 l (omega arith)
 
 pub record Reads (l : List ℕ) (e : Event) : Type 0 where
-  pub bytes : eventBytes e ≡ l
+  pub bytes : eventBytes (featureOf l) e ≡ l
   pub formed : wellFormed e ≡ true
 
 pub event-forth : (l : List ℕ) (e : Event) → Bytes l → readEvent l ≡ WellFormed e → Reads l e
@@ -120,7 +117,7 @@ event-forth l e b h = go (eqb (length l) 64) (spareZero l) (wellFormed (eventOf 
     go true false r p q s h = let z : _≡_ {A = ℕ} 0 1 = cc in absurd (omega arith)
     go false q r p s t h = let z : _≡_ {A = ℕ} 0 1 = cc in absurd (omega arith)
 
--- ---- 64 bytes are judged by their spare bytes and by the event that their fields are
+-- ---- 64 bytes are judged by their spare byte and by the event that their fields are
 pub whole-read : (l : List ℕ) → length l ≡ 64 → readEvent l ≡ parsed (spareZero l) (eventOf l)
 unfolding readEvent parsed
 whole-read l long = rw (eq-eqb (length l) 64 long)

@@ -1,4 +1,4 @@
--- How an event record begins: three bytes and a spare one.
+-- How an event record begins: three bytes and a spare one; and two numbers as one word.
 use mathlib.Core.Path.{_≡_, ap, _∙_}
 use mathlib.Core.List.{List, [], _∷_, _++_}
 use Prim.Native.Nat.{ℕ, _+_, _*_, _/_, _%_, _<_}
@@ -8,7 +8,7 @@ use Rattle.laws.specs.Bytes.{le, halves}
 abbrev pub headBytes : ℕ → ℕ → ℕ → List ℕ
 headBytes first second third = first ∷ second ∷ third ∷ 0 ∷ []
 
--- ---- four bytes and a number, or a number alone, as one word
+-- ---- four bytes and a number, or two numbers, as one word
 pub head-word : (a b c size : ℕ) → a < 256 → b < 256 → c < 256 → size < 4294967296 → le 8 (a + 256 * b + 65536 * c + 4294967296 * size) ≡ headBytes a b c ++ le 4 size
 head-word a b c size a-fits b-fits c-fits size-fits =
     let v : ℕ = a + 256 * b + 65536 * c + 4294967296 * size in
@@ -27,8 +27,8 @@ head-word a b c size a-fits b-fits c-fits size-fits =
     let spare : w / 256 / 256 / 256 % 256 ≡ 0 = ap (λ (n : ℕ). n / 256 % 256) but-two ∙ none in
     halves v ∙ (λ i. le 4 (low i) ++ le 4 (high i)) ∙ (λ i. (first i ∷ second i ∷ third i ∷ spare i ∷ []) ++ le 4 size)
 
-pub wide-word : (v : ℕ) → v < 4294967296 → le 8 v ≡ le 4 v ++ le 4 0
-wide-word v fits =
-    let low : v % 4294967296 ≡ v = omega arith in
-    let high : v / 4294967296 ≡ 0 = omega arith in
-    halves v ∙ (λ i. le 4 (low i) ++ le 4 (high i))
+pub two-words : (v w : ℕ) → v < 4294967296 → le 8 (v + 4294967296 * w) ≡ le 4 v ++ le 4 w
+two-words v w fits =
+    let low : (v + 4294967296 * w) % 4294967296 ≡ v = omega arith in
+    let high : (v + 4294967296 * w) / 4294967296 ≡ w = omega arith in
+    halves (v + 4294967296 * w) ∙ (λ i. le 4 (low i) ++ le 4 (high i))

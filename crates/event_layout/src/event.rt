@@ -1,6 +1,6 @@
 // The 64-byte event record.
 use crate::head::put_first;
-use crate::head::put_padded;
+use crate::head::put_two;
 use kinds::event::Bare;
 use kinds::event::Event;
 use kinds::event::Heard;
@@ -11,7 +11,7 @@ ghost use mathlib.Core.Path.{_≡_};
 ghost use lib.ListN.{length};
 ghost use lib.Seq.{sets};
 ghost use Rattle.kinds.specs.Event.{toldApart, BareOf};
-ghost use Rattle.event_layout.specs.Event.{bit, doubleBytes, eventBytes, eventOf, spareZero, readEvent};
+ghost use Rattle.event_layout.specs.Event.{bit, doubleBytes, eventBytes, eventOf, featureOf, spareZero, readEvent};
 
 fn byte_of(on: bool) -> u8
     ensures { λ r. ⌜ r ≡ bit on ⌝ }
@@ -31,12 +31,13 @@ fn put_doubles(bytes: &mut [u8], e: Event)
     put_u64(bytes, 56, e.tm);
 }
 
-pub fn put_event(bytes: &mut [u8], e: Event)
+// Lays an event down, with the number of its feature.
+pub fn put_event(bytes: &mut [u8], feature: u32, e: Event)
     requires { ⌜ length (now bytes) ≡ 64 ⌝ }
-    ensures { λ _. ⌜ now (bytes .exit) ≡ eventBytes e ⌝ }
+    ensures { λ _. ⌜ now (bytes .exit) ≡ eventBytes feature e ⌝ }
 {
     put_first(bytes, e.kind, byte_of(e.tagged), e.present, e.size);
-    put_padded(bytes, 8, e.idx);
+    put_two(bytes, 8, e.idx, feature);
     put_doubles(bytes, e);
 }
 
@@ -68,11 +69,19 @@ pub fn event_of(bytes: &[u8]) -> Event
     }
 }
 
+// The number of the feature that a record is of.
+pub fn feature_of(bytes: &[u8]) -> u32
+    requires { ⌜ length (now bytes) ≡ 64 ⌝ }
+    ensures { λ r. ⌜ r ≡ featureOf (now (bytes .entry)) ⌝ }
+{
+    u32_at(bytes, 12)
+}
+
 fn spare_zero(bytes: &[u8]) -> bool
     requires { ⌜ length (now bytes) ≡ 64 ⌝ }
     ensures { λ r. ⌜ r ≡ spareZero (now (bytes .entry)) ⌝ }
 {
-    (bytes[1] <= 1) & (bytes[3] == 0) & (u32_at(bytes, 12) == 0)
+    (bytes[1] <= 1) & (bytes[3] == 0)
 }
 
 // What a record's bytes are: a pair, a coordinate, a begin that sets no type, any other event, or malformed. Pairs are the

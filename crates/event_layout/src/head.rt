@@ -1,4 +1,4 @@
-// How an event record begins, and a number with spare bytes behind it.
+// How an event record begins, and two numbers side by side.
 use numbers::put_u64;
 ghost use mathlib.Core.Path.{_≡_};
 ghost use mathlib.Core.List.{_++_};
@@ -22,10 +22,10 @@ pub fn put_first(s: &mut [u8], first: u8, second: u8, third: u8, v: u32)
     put_u64(s, 0, head_word(first, second, third, v));
 }
 
-// A number and four spare bytes behind it, laid down as one word.
-pub fn put_padded(s: &mut [u8], at: usize, v: u32)
+// Two numbers, laid down as one word.
+pub fn put_two(s: &mut [u8], at: usize, v: u32, w: u32)
     requires { ⌜ at + 8 ≤ length (now s) ⌝ }
-    ensures { λ _. ⌜ now (s .exit) ≡ sets (now (s .entry)) at (le 4 v ++ le 4 0) ⌝ }
+    ensures { λ _. ⌜ now (s .exit) ≡ sets (now (s .entry)) at (le 4 v ++ le 4 w) ⌝ }
 {
-    put_u64(s, at, v as u64);
+    put_u64(s, at, (v as u64) + 4294967296 * (w as u64));
 }

@@ -4,6 +4,7 @@ mod head;
 mod value;
 
 pub use event::event_of;
+pub use event::feature_of;
 pub use event::put_event;
 pub use event::read_bare;
 pub use event::read_event;

@@ -45,7 +45,7 @@ module _ (table : List ℕ) (P : Pools) where
   pub table-reads : (F : Flags) (n declared : ℕ) (g : Geometry n) (t : Tree (recordWith table P) n declared g) → agrees declared (t .root .kind) ≡ true → depth n g ≤ 15 → readS F (recordWith table P) declared ≡ told (eventsOf F n g)
   table-reads F n declared g t a d = reads F (recordWith table P) usable-small n declared g t a d
 
-  pub reads-said : (F : Flags) (n declared : ℕ) (g : Geometry n) (L : List ℕ) (number count : ℕ) (M : List ℕ) (t : Tree (recordWith table P) n declared g) → agrees declared (t .root .kind) ≡ true → depth n g ≤ 15 → length (eventsOf F n g) ≤ roomOf 64 L
-      → Said events (readS F (recordWith table P) declared) L number count M → Complete events (eventsOf F n g) L number count M
+  pub reads-said : (F : Flags) (n declared : ℕ) (g : Geometry n) (feature : ℕ) (L : List ℕ) (number count : ℕ) (M : List ℕ) (t : Tree (recordWith table P) n declared g) → agrees declared (t .root .kind) ≡ true → depth n g ≤ 15 → length (eventsOf F n g) ≤ roomOf 64 L
+      → Said (events feature) (readS F (recordWith table P) declared) L number count M → Complete (events feature) (eventsOf F n g) L number count M
   unfolding events
-  reads-said F n declared g L number count M t a d room said = said-complete events _ (eventsOf F n g) L number count M (table-reads F n declared g t a d) room said
+  reads-said F n declared g feature L number count M t a d room said = said-complete (events feature) _ (eventsOf F n g) L number count M (table-reads F n declared g t a d) room said

@@ -119,8 +119,8 @@ module _ (F : Flags) (w : Writer) (r : Row) (means : (get : ℕ → Option Rec) 
       v = over F w (r .given)
 
   -- read back, the log gets the events of the geometry that is kept
-  pub call-reads : (d : ℕ) (detect promote : Bool) → Keeps F d detect promote (r .given) (r .kept) → (L : List ℕ) (number count : ℕ) (M : List ℕ) → length (eventsOf F 1 (r .kept)) ≤ roomOf 64 L
-      → Said events (readS F (recordWith (m .table) (m .pools)) (s .typing .declared)) L number count M → Complete events (eventsOf F 1 (r .kept)) L number count M
-  call-reads d detect promote q L number count M room said =
+  pub call-reads : (d : ℕ) (detect promote : Bool) → Keeps F d detect promote (r .given) (r .kept) → (feature : ℕ) (L : List ℕ) (number count : ℕ) (M : List ℕ) → length (eventsOf F 1 (r .kept)) ≤ roomOf 64 L
+      → Said (events feature) (readS F (recordWith (m .table) (m .pools)) (s .typing .declared)) L number count M → Complete (events feature) (eventsOf F 1 (r .kept)) L number count M
+  call-reads d detect promote q feature L number count M room said =
       let p = kept-plain F d detect promote (r .given) (r .kept) q in
-      reads-said (m .table) (m .pools) F 1 _ (r .kept) L number count M call-means (plain-agrees _ _ (r .kept) call-means p) (p .low) room said
+      reads-said (m .table) (m .pools) F 1 _ (r .kept) feature L number count M call-means (plain-agrees _ _ (r .kept) call-means p) (p .low) room said

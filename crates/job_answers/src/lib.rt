@@ -29,8 +29,8 @@ fn after_finish(work: Work, number: u8) -> Work {
 }
 
 // A feature without a map has neither its box shown nor its properties.
-fn after_reading(work: Work, answer: Answer, sent: &[u8], log: &[u8]) -> Work {
-    if show_geometry(work.feature(), answer, sent, log) {
+fn after_reading(work: Work, answer: Answer, feature: u32, sent: &[u8], log: &[u8]) -> Work {
+    if show_geometry(work.feature(feature), answer, sent, log) {
         return work.to(Stage::Box);
     }
     work.to(Stage::Leave)
@@ -53,13 +53,13 @@ fn answer_of(reply: Reply) -> Answer {
     }
 }
 
-fn after(work: Work, answer: Answer, bbox: Box, sent: &[u8], log: &[u8]) -> Work {
+fn after(work: Work, answer: Answer, feature: u32, bbox: Box, sent: &[u8], log: &[u8]) -> Work {
     let number = answer.number;
     let stage = work.stage;
     match stage {
         Stage::Event => after_event(work, number, sent),
         Stage::Finish => after_finish(work, number),
-        Stage::Back => after_reading(work, answer, sent, log),
+        Stage::Back => after_reading(work, answer, feature, sent, log),
         Stage::Box => after_box(work, Boxed { number, bbox }),
         Stage::Leave => after_leaving(work, number),
         Stage::Item => work,
@@ -71,5 +71,5 @@ fn after(work: Work, answer: Answer, bbox: Box, sent: &[u8], log: &[u8]) -> Work
 
 pub fn answered(work: Work, reply: Reply, sent: &[u8; SENT_BYTES], log: &[u8; SENT_BYTES]) -> Work {
     let bbox = reply.bbox;
-    after(work, answer_of(reply), bbox, sent, log)
+    after(work, answer_of(reply), reply.feature, bbox, sent, log)
 }

@@ -5,6 +5,7 @@ mod write;
 
 use as_words::state::StateWords;
 use as_words::state::declared_of;
+use as_words::state::feature_of;
 use job_steps::SENT_BYTES;
 use job_steps::Stage;
 use job_steps::Work;
@@ -57,6 +58,7 @@ pub fn ask(
             stage,
             declared_of(state),
             flags,
+            feature_of(state),
             table,
             xy,
             ends,

@@ -8,11 +8,12 @@ use kinds::flags::Flags;
 // The root is the feature's first record, so its box is around the whole feature.
 const ROOT: usize = 0;
 
-// The feature's box, or the feature read back to the log.
+// The feature's box, or the feature read back to the log under its number.
 pub fn look_up(
     stage: Stage,
     declared: u8,
     flags: Flags,
+    feature: u32,
     table: &[u8],
     xy: &[u64],
     ends: &[u32],
@@ -25,5 +26,8 @@ pub fn look_up(
     if let Stage::Box = stage {
         return with_box(record_box::box_at(table, xy, ends, z, m, t, tm, ROOT));
     }
-    with_count(reader::read(table, xy, ends, z, m, t, tm, declared, flags, log))
+    with_count(
+        reader::read(table, xy, ends, z, m, t, tm, declared, flags, feature, log),
+        feature,
+    )
 }

@@ -6,8 +6,9 @@ use record_box::Boxed;
 // What a call has none of is 0 or empty.
 pub struct Reply {
     pub number: u8,
-    // How many events are in the log.
+    // How many events are in the log, and the number that they are under.
     pub count: usize,
+    pub feature: u32,
     pub bbox: Box,
 }
 
@@ -15,14 +16,16 @@ pub fn numbered(number: u8) -> Reply {
     Reply {
         number,
         count: 0,
+        feature: 0,
         bbox: Box::empty(),
     }
 }
 
-pub fn with_count(answer: Answer) -> Reply {
+pub fn with_count(answer: Answer, feature: u32) -> Reply {
     Reply {
         number: answer.number,
         count: answer.count,
+        feature,
         bbox: Box::empty(),
     }
 }
@@ -32,6 +35,7 @@ pub fn with_box(answer: Boxed) -> Reply {
     Reply {
         number: answer.number,
         count: 0,
+        feature: 0,
         bbox,
     }
 }

@@ -4,6 +4,7 @@ use crate::work::Work;
 use console::end_line;
 use console::say;
 use console::say_count;
+use console::say_number;
 use console::say_record;
 use console::say_refusal;
 use job_file::fault;
@@ -64,12 +65,25 @@ pub fn event_of(events: usize, sent: &[u8; SENT_BYTES]) -> &[u8] {
     event_behind(events, sent)
 }
 
+// Whose event it is, where it is refused for that.
+fn say_owner(event: &[u8], number: u8) {
+    if number != refusal::OTHER_FEATURE {
+        return;
+    }
+    if event.len() != EVENT_BYTES {
+        return;
+    }
+    say(b", of number ");
+    say_number(log::feature_in(event) as u64);
+}
+
 fn say_refused(work: Work, event: &[u8], number: u8) {
     work.say_feature();
     say(b", event ");
     say_count(work.events);
     say(b" (");
     say_record(event, geometry_type::UNKNOWN);
+    say_owner(event, number);
     say(b"): ");
     say_refusal(number);
     end_line();

@@ -32,6 +32,8 @@ pub struct Work {
     pub features: u64,
     pub events: usize,
     pub properties: usize,
+    // Whether an event of it was taken: then the writer holds its number.
+    pub numbered: bool,
     // Whether anything of it was refused.
     pub refused: bool,
     // The place of the next byte.
@@ -52,6 +54,7 @@ impl Work {
             features: 0,
             events: 0,
             properties: 0,
+            numbered: false,
             refused: false,
             place,
             stage: Stage::Item,
@@ -63,6 +66,7 @@ impl Work {
             features: self.features,
             events: self.events,
             properties: self.properties,
+            numbered: self.numbered,
             refused: self.refused,
             place: self.place,
             stage,
@@ -96,6 +100,7 @@ impl Work {
     pub fn after_event(self, refused: bool) -> Work {
         let mut work = self;
         work.events = more(self.events);
+        work.numbered = self.numbered | !refused;
         work.refused = self.refused | refused;
         work.to(Stage::Item)
     }
@@ -115,23 +120,26 @@ impl Work {
 
     pub fn after_feature(self) -> Work {
         let mut work = Work::new(self.place);
-        work.features = self.number();
+        work.features = self.ordinal();
         work
     }
 
     // The feature in hand, as people count.
-    fn number(self) -> u64 {
+    fn ordinal(self) -> u64 {
         std::num::wrapping_add_u64(self.features, 1)
     }
 
     pub fn say_feature(self) {
         say(b"feature ");
-        say_number(self.number());
+        say_number(self.ordinal());
     }
 
-    pub fn feature(self) -> Feature {
+    // With the number that the writer holds.
+    pub fn feature(self, number: u32) -> Feature {
         Feature {
-            number: self.number(),
+            ordinal: self.ordinal(),
+            numbered: self.numbered,
+            number,
             events: self.events,
             refused: self.refused,
         }

@@ -41,3 +41,6 @@ pub const VALUE_CUT: u8 = 14;
 pub const NOT_ITS_TURN: u8 = 15;
 
 pub const COLUMN_TOO_LARGE: u8 = 16;
+
+// An event of another feature than the one in hand.
+pub const OTHER_FEATURE: u8 = 17;

@@ -67,9 +67,9 @@ module _ {A : Type 0} (F : Format A) (P : A → Type 0) (apart : (a b : A) → P
       go false room n = absurd (omega (arith, n, complete .number-is))
 
 -- ---- events
-heard-apart : (a b : Event) → Fits a → Fits b → events .bytes a ≡ events .bytes b → a ≡ b
-heard-apart a b p q e =
-    let same : WellFormed a ≡ WellFormed b = sym (hear-said a (p .sized) (p .formed)) ∙ ap heard e ∙ hear-said b (q .sized) (q .formed) in
+heard-apart : (feature : ℕ) (a b : Event) → Fits a → Fits b → events feature .bytes a ≡ events feature .bytes b → a ≡ b
+heard-apart feature a b p q e =
+    let same : WellFormed a ≡ WellFormed b = sym (hear-said feature a (p .sized) (p .formed)) ∙ ap heard e ∙ hear-said feature b (q .sized) (q .formed) in
     cc
 
 module _ (F : Flags) (table : List ℕ) (P : Pools) (words : InWords P) (declared : ℕ) (es : List Event) where
@@ -78,15 +78,15 @@ module _ (F : Flags) (table : List ℕ) (P : Pools) (words : InWords P) (declare
   told-fit e = subst (All Fits) (ap recordsOf e ∙ told-records es) (all-records Fits (readS F (recordWith table P) declared) (table-says table P words F declared))
 
   -- a reading of words that leaves events in a log, and they fit, says just these
-  pub logged-reads : All Fits es → (L : List ℕ) (number count : ℕ) (M : List ℕ) → Said events (readS F (recordWith table P) declared) L number count M → Complete events es L number count M
+  pub logged-reads : All Fits es → (feature : ℕ) (L : List ℕ) (number count : ℕ) (M : List ℕ) → Said (events feature) (readS F (recordWith table P) declared) L number count M → Complete (events feature) es L number count M
       → readS F (recordWith table P) declared ≡ told es
-  logged-reads fit L number count M said complete = logged events Fits heard-apart (readS F (recordWith table P) declared) es L number count M (table-says table P words F declared) fit said complete
+  logged-reads fit feature L number count M said complete = logged (events feature) Fits (heard-apart feature) (readS F (recordWith table P) declared) es L number count M (table-says table P words F declared) fit said complete
 
 -- ---- no table and pools of words that leave a geometry's events in a log are smaller than the least, nor than the tree that the writer leaves
-module _ (F : Flags) (s : Simple) (fit : All Fits (eventsOf F 0 s)) (table : List ℕ) (P : Pools) (words : InWords P) (L : List ℕ) (number count : ℕ) (M : List ℕ)
-    (said : Said events (readS F (recordWith table P) (typeOf s)) L number count M) (complete : Complete events (eventsOf F 0 s) L number count M) where
+module _ (F : Flags) (s : Simple) (fit : All Fits (eventsOf F 0 s)) (table : List ℕ) (P : Pools) (words : InWords P) (feature : ℕ) (L : List ℕ) (number count : ℕ) (M : List ℕ)
+    (said : Said (events feature) (readS F (recordWith table P) (typeOf s)) L number count M) (complete : Complete (events feature) (eventsOf F 0 s) L number count M) where
   pub logged-at-least : leastOf F s ≤ treeSize table P
-  logged-at-least = table-at-least F s table P (logged-reads F table P words (typeOf s) (eventsOf F 0 s) fit L number count M said complete)
+  logged-at-least = table-at-least F s table P (logged-reads F table P words (typeOf s) (eventsOf F 0 s) fit feature L number count M said complete)
 
   pub logged-smallest : (k : Held) (h : Typing) (own : List ℕ) (pools : Pools) → Writable F s k → Holds (recordWith own pools) 0 (tree (ending h k)) → treeSize own pools ≤ treeSize table P
   logged-smallest k h own pools q o = omega (arith, table-at-most F s k h own pools q o, logged-at-least)

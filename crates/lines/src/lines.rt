@@ -42,6 +42,7 @@ pub fn nothing_there(there: bool, ends: usize) -> bool
 // The line from pair `before` to pair `end`.
 pub fn read_multilinestring_part(
     log: &mut [u8],
+    feature: u32,
     count: usize,
     xy: &[u64],
     z: &[u64],
@@ -55,7 +56,7 @@ pub fn read_multilinestring_part(
 ) -> Answer
     requires { ⌜ length (now xy) ≤ 131072 ⌝ }
     ensures { λ r. let C = coordsIn seen (now (xy .entry)) (now (z .entry)) (now (m .entry)) (now (t .entry)) (now (tm .entry)) in
-        ⌜ run events (stretchS C before end idx) (now (log .entry)) count ≡ out (r .number) (r .count) (now (log .exit)) ⌝ }
+        ⌜ run (events feature) (stretchS C before end idx) (now (log .entry)) count ≡ out (r .number) (r .count) (now (log .exit)) ⌝ }
 {
     if bad_end(before, end) {
         return Answer {
@@ -70,11 +71,12 @@ pub fn read_multilinestring_part(
         size: end - before,
         idx,
     };
-    read_window(log, count, xy, z, m, t, tm, seen, w, f)
+    read_window(log, feature, count, xy, z, m, t, tm, seen, w, f)
 }
 
 fn read_lines(
     log: &mut [u8],
+    feature: u32,
     count: usize,
     xy: &[u64],
     ends: &[u32],
@@ -86,14 +88,27 @@ fn read_lines(
 ) -> Answer
     requires { ⌜ (length (now xy) ≤ 131072) × (length (now ends) ≤ 65536) ⌝ }
     ensures { λ r. let C = coordsIn seen (now (xy .entry)) (now (z .entry)) (now (m .entry)) (now (t .entry)) (now (tm .entry)) in
-        ⌜ run events (linesS C (now (ends .entry)) 0 0) (now (log .entry)) count ≡ out (r .number) (r .count) (now (log .exit)) ⌝ }
+        ⌜ run (events feature) (linesS C (now (ends .entry)) 0 0) (now (log .entry)) count ≡ out (r .number) (r .count) (now (log .exit)) ⌝ }
 {
     let mut said = count;
     let mut before: u32 = 0;
     let mut i: usize = 0;
     while i < ends.len() {
         let end = ends[i];
-        let r = read_multilinestring_part(log, said, xy, z, m, t, tm, seen, before, end, i as u32);
+        let r = read_multilinestring_part(
+            log,
+            feature,
+            said,
+            xy,
+            z,
+            m,
+            t,
+            tm,
+            seen,
+            before,
+            end,
+            i as u32,
+        );
         if r.number != refusal::DONE {
             return r;
         }
@@ -110,6 +125,7 @@ fn read_lines(
 // The whole list as one line: a LineString, a MultiPoint, a CircularString, a ring.
 pub fn read_line(
     log: &mut [u8],
+    feature: u32,
     count: usize,
     xy: &[u64],
     z: &[u64],
@@ -123,7 +139,7 @@ pub fn read_line(
 ) -> Answer
     requires { ⌜ (length (now xy) ≤ 131072) × (kind < 32) ⌝ }
     ensures { λ r. let C = coordsIn seen (now (xy .entry)) (now (z .entry)) (now (m .entry)) (now (t .entry)) (now (tm .entry)) in
-        ⌜ run events (flatS C kind tagged idx) (now (log .entry)) count ≡ out (r .number) (r .count) (now (log .exit)) ⌝ }
+        ⌜ run (events feature) (flatS C kind tagged idx) (now (log .entry)) count ≡ out (r .number) (r .count) (now (log .exit)) ⌝ }
 {
     if !seen.xy {
         return Answer {
@@ -143,12 +159,13 @@ pub fn read_line(
         size: (xy.len() / 2) as u32,
         idx,
     };
-    read_window(log, count, xy, z, m, t, tm, seen, w, f)
+    read_window(log, feature, count, xy, z, m, t, tm, seen, w, f)
 }
 
 // The lines of a Polygon or a MultiLineString: with at most one end the whole list is one.
 fn read_rings(
     log: &mut [u8],
+    feature: u32,
     count: usize,
     xy: &[u64],
     ends: &[u32],
@@ -160,11 +177,12 @@ fn read_rings(
 ) -> Answer
     requires { ⌜ (length (now xy) ≤ 131072) × (length (now ends) ≤ 65536) ⌝ }
     ensures { λ r. let C = coordsIn seen (now (xy .entry)) (now (z .entry)) (now (m .entry)) (now (t .entry)) (now (tm .entry)) in
-        ⌜ run events (ringsS C (now (ends .entry))) (now (log .entry)) count ≡ out (r .number) (r .count) (now (log .exit)) ⌝ }
+        ⌜ run (events feature) (ringsS C (now (ends .entry))) (now (log .entry)) count ≡ out (r .number) (r .count) (now (log .exit)) ⌝ }
 {
     if ends.len() <= 1 {
         read_line(
             log,
+            feature,
             count,
             xy,
             z,
@@ -177,13 +195,14 @@ fn read_rings(
             0,
         )
     } else {
-        read_lines(log, count, xy, ends, z, m, t, tm, seen)
+        read_lines(log, feature, count, xy, ends, z, m, t, tm, seen)
     }
 }
 
 // read_polygon, and whatever else is a begin, lines and an end.
 pub fn read_stretches(
     log: &mut [u8],
+    feature: u32,
     count: usize,
     xy: &[u64],
     ends: &[u32],
@@ -198,22 +217,23 @@ pub fn read_stretches(
 ) -> Answer
     requires { ⌜ (length (now xy) ≤ 131072) × (length (now ends) ≤ 65536) × (kind < 32) ⌝ }
     ensures { λ r. let C = coordsIn seen (now (xy .entry)) (now (z .entry)) (now (m .entry)) (now (t .entry)) (now (tm .entry)) in
-        ⌜ run events (stretchesS kind tagged idx C (now (ends .entry))) (now (log .entry)) count ≡ out (r .number) (r .count) (now (log .exit)) ⌝ }
+        ⌜ run (events feature) (stretchesS kind tagged idx C (now (ends .entry))) (now (log .entry)) count ≡ out (r .number) (r .count) (now (log .exit)) ⌝ }
 {
     let size = stretches(ends.len());
-    let b = log::say(log, count, Event::begin(kind, tagged, size, idx));
+    let b = log::say(log, feature, count, Event::begin(kind, tagged, size, idx));
     if b.number != refusal::DONE {
         return b;
     }
-    let r = read_rings(log, b.count, xy, ends, z, m, t, tm, seen);
+    let r = read_rings(log, feature, b.count, xy, ends, z, m, t, tm, seen);
     if r.number != refusal::DONE {
         return r;
     }
-    log::say(log, r.count, Event::end(kind, tagged, idx))
+    log::say(log, feature, r.count, Event::end(kind, tagged, idx))
 }
 
 pub fn read_multilinestring(
     log: &mut [u8],
+    feature: u32,
     count: usize,
     xy: &[u64],
     ends: &[u32],
@@ -226,7 +246,7 @@ pub fn read_multilinestring(
 ) -> Answer
     requires { ⌜ (length (now xy) ≤ 131072) × (length (now ends) ≤ 65536) ⌝ }
     ensures { λ r. let C = coordsIn seen (now (xy .entry)) (now (z .entry)) (now (m .entry)) (now (t .entry)) (now (tm .entry)) in
-        ⌜ run events (multiLineS C (now (ends .entry)) idx) (now (log .entry)) count ≡ out (r .number) (r .count) (now (log .exit)) ⌝ }
+        ⌜ run (events feature) (multiLineS C (now (ends .entry)) idx) (now (log .entry)) count ≡ out (r .number) (r .count) (now (log .exit)) ⌝ }
 {
     if nothing_there(seen.xy, ends.len()) {
         return Answer {
@@ -235,5 +255,19 @@ pub fn read_multilinestring(
         };
     }
     let kind = geometry_type::MULTI_LINE_STRING;
-    read_stretches(log, count, xy, ends, z, m, t, tm, seen, kind, false, idx)
+    read_stretches(
+        log,
+        feature,
+        count,
+        xy,
+        ends,
+        z,
+        m,
+        t,
+        tm,
+        seen,
+        kind,
+        false,
+        idx,
+    )
 }

@@ -1,4 +1,4 @@
-// The log: event records one after the other.
+// The log: event records one after the other, each with the number of its feature.
 use crate::EVENT_BYTES;
 use crate::room::has_room;
 use kinds::answer::Answer;
@@ -11,7 +11,7 @@ ghost use lib.ListN.{length};
 ghost use Rattle.laws.specs.Script.{one, out, run};
 ghost use Rattle.kinds.specs.declared.event.Event.{Event};
 ghost use Rattle.kinds.specs.Event.{WellFormed, toldApart, BareOf};
-ghost use Rattle.log.specs.Log.{events, heard, restNumber};
+ghost use Rattle.log.specs.Log.{events, heard, featureIn, restNumber};
 
 // What bytes are: a pair, a coordinate, a begin that sets no type, any other event, or malformed.
 pub fn hear(bytes: &[u8]) -> Heard
@@ -35,9 +35,17 @@ pub fn event_in(bytes: &[u8]) -> Event
     event_layout::event_of(bytes)
 }
 
-// Writes the next record of a log that has `count` of them, or refuses with 9.
-pub fn say(log: &mut [u8], count: usize, e: Event) -> Answer
-    ensures { λ r. ⌜ run events (one e) (now (log .entry)) count ≡ out (r .number) (r .count) (now (log .exit)) ⌝ }
+// The number of the feature that an event's bytes are of.
+pub fn feature_in(bytes: &[u8]) -> u32
+    requires { ⌜ length (now bytes) ≡ 64 ⌝ }
+    ensures { λ r. ⌜ r ≡ featureIn (now (bytes .entry)) ⌝ }
+{
+    event_layout::feature_of(bytes)
+}
+
+// Writes the next record of a feature's log that has `count` of them, or refuses with 9.
+pub fn say(log: &mut [u8], feature: u32, count: usize, e: Event) -> Answer
+    ensures { λ r. ⌜ run (events feature) (one e) (now (log .entry)) count ≡ out (r .number) (r .count) (now (log .exit)) ⌝ }
 {
     if !has_room(log, EVENT_BYTES, count) {
         return Answer {
@@ -47,7 +55,7 @@ pub fn say(log: &mut [u8], count: usize, e: Event) -> Answer
     }
     let from = EVENT_BYTES * count;
     let end = from + EVENT_BYTES;
-    event_layout::put_event(&mut log[from..end], e);
+    event_layout::put_event(&mut log[from..end], feature, e);
     Answer {
         number: refusal::DONE,
         count: count + 1,

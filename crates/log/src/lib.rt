@@ -4,6 +4,7 @@ mod room;
 mod values;
 
 pub use events::event_in;
+pub use events::feature_in;
 pub use events::hear;
 pub use events::hear_bare;
 pub use events::rest_number;

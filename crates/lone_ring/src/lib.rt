@@ -13,9 +13,9 @@ ghost use Rattle.log.specs.Log.{events};
 ghost use Rattle.lines.specs.Lines.{flatS, stretchesS};
 ghost use Rattle.lone_ring.specs.Lone.{loneS, loneCoords};
 
-fn read_lone_pairs(log: &mut [u8], count: usize, xy: &[u64]) -> Answer
+fn read_lone_pairs(log: &mut [u8], feature: u32, count: usize, xy: &[u64]) -> Answer
     requires { ⌜ length (now xy) ≤ 131072 ⌝ }
-    ensures { λ r. ⌜ run events (loneS (now (xy .entry)) 0) (now (log .entry)) count ≡ out (r .number) (r .count) (now (log .exit)) ⌝ }
+    ensures { λ r. ⌜ run (events feature) (loneS (now (xy .entry)) 0) (now (log .entry)) count ≡ out (r .number) (r .count) (now (log .exit)) ⌝ }
 {
     let mut said = count;
     let mut i: usize = 0;
@@ -27,7 +27,7 @@ fn read_lone_pairs(log: &mut [u8], count: usize, xy: &[u64]) -> Answer
                 count: said,
             };
         }
-        let r = log::say(log, said, Event::xy(xy[i], xy[i + 1], n));
+        let r = log::say(log, feature, said, Event::xy(xy[i], xy[i + 1], n));
         if r.number != refusal::DONE {
             return r;
         }
@@ -42,37 +42,37 @@ fn read_lone_pairs(log: &mut [u8], count: usize, xy: &[u64]) -> Answer
 }
 
 // The whole list as one line.
-fn read_lone_line(log: &mut [u8], count: usize, xy: &[u64]) -> Answer
+fn read_lone_line(log: &mut [u8], feature: u32, count: usize, xy: &[u64]) -> Answer
     requires { ⌜ length (now xy) ≤ 131072 ⌝ }
-    ensures { λ r. ⌜ run events (flatS (loneCoords (now (xy .entry))) 2 false 0) (now (log .entry)) count ≡ out (r .number) (r .count) (now (log .exit)) ⌝ }
+    ensures { λ r. ⌜ run (events feature) (flatS (loneCoords (now (xy .entry))) 2 false 0) (now (log .entry)) count ≡ out (r .number) (r .count) (now (log .exit)) ⌝ }
 {
     let kind = geometry_type::LINE_STRING;
     let size = (xy.len() / 2) as u32;
-    let b = log::say(log, count, Event::begin(kind, false, size, 0));
+    let b = log::say(log, feature, count, Event::begin(kind, false, size, 0));
     if b.number != refusal::DONE {
         return b;
     }
-    let r = read_lone_pairs(log, b.count, xy);
+    let r = read_lone_pairs(log, feature, b.count, xy);
     if r.number != refusal::DONE {
         return r;
     }
-    log::say(log, r.count, Event::end(kind, false, 0))
+    log::say(log, feature, r.count, Event::end(kind, false, 0))
 }
 
 // An untagged polygon whose one ring is the whole list.
-pub fn read_lone_ring(log: &mut [u8], count: usize, xy: &[u64], idx: u32) -> Answer
+pub fn read_lone_ring(log: &mut [u8], feature: u32, count: usize, xy: &[u64], idx: u32) -> Answer
     requires { ⌜ length (now xy) ≤ 131072 ⌝ }
-    ensures { λ r. ⌜ run events (stretchesS 3 false idx (loneCoords (now (xy .entry))) [])
+    ensures { λ r. ⌜ run (events feature) (stretchesS 3 false idx (loneCoords (now (xy .entry))) [])
         (now (log .entry)) count ≡ out (r .number) (r .count) (now (log .exit)) ⌝ }
 {
     let kind = geometry_type::POLYGON;
-    let b = log::say(log, count, Event::begin(kind, false, 1, idx));
+    let b = log::say(log, feature, count, Event::begin(kind, false, 1, idx));
     if b.number != refusal::DONE {
         return b;
     }
-    let r = read_lone_line(log, b.count, xy);
+    let r = read_lone_line(log, feature, b.count, xy);
     if r.number != refusal::DONE {
         return r;
     }
-    log::say(log, r.count, Event::end(kind, false, idx))
+    log::say(log, feature, r.count, Event::end(kind, false, idx))
 }

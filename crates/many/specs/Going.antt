@@ -18,12 +18,14 @@ use Rattle.runs.specs.declared.took.Took.{Took}
 use Rattle.pending.specs.declared.words.Pending.{Pending}
 use Rattle.writing.specs.declared.state.State.{State}
 use Rattle.writing.specs.declared.state.Wrote.{Wrote}
-use Rattle.writing.specs.State.{withPending, Mem, Outcome, outcome, wrote}
+use Rattle.writing.specs.declared.feature.Feature.{Feature}
+use Rattle.writing.specs.Feature.{belongs}
+use Rattle.writing.specs.State.{Mem, Outcome, outcome, wrote}
 use Rattle.writing.specs.Calls.{isReady, eventCall}
 use Rattle.writing.specs.Apart.{is-ready, was-ready}
 use Rattle.writing.specs.Ends.{malformed}
 use Rattle.runs.specs.Events.{recordOf, recordsIn, Progress, took, progress, eventsFrom, eventsCall, none-left, went-on, stopped}
-use Rattle.runs.specs.Plain.{blockedNumber}
+use Rattle.runs.specs.Plain.{blockedNumber, amid}
 use Rattle.writing.specs.Ready.{same-ready, event-ready}
 use Rattle.writing.specs.Refused.{event-unchanged}
 use Rattle.runs.specs.Run.{Values, memWith, Run, BlockedAt}
@@ -42,8 +44,8 @@ begun bytes s k records words tells =
     record { within = omega arith; table = refl; pools = refl; tells = sym (tells ∙ (λ i. isReady s (records i) (words i))); rest = ap (λ (n : ℕ). eventsFrom n 0 bytes s k) all }
 
 -- ---- a run of plain events
-pub at-run : {bytes : List ℕ} {s₀ : State} {k₀ : Mem} {ready : Bool} {from : ℕ} {s : State} {table ends : List ℕ} {v : Values} {taken : ℕ} {p : Pending} {v′ : Values}
-    → Going bytes s₀ k₀ ready from s (memWith table ends v) → Run bytes ready from (s .pending) v taken p v′ → Going bytes s₀ k₀ ready taken (withPending s p) (memWith table ends v′)
+pub at-run : {bytes : List ℕ} {s₀ : State} {k₀ : Mem} {ready : Bool} {from : ℕ} {s : State} {table ends : List ℕ} {v : Values} {taken : ℕ} {f : Feature} {p : Pending} {v′ : Values}
+    → Going bytes s₀ k₀ ready from s (memWith table ends v) → Run bytes ready from (s .feature) (s .pending) v taken f p v′ → Going bytes s₀ k₀ ready taken (amid s f p) (memWith table ends v′)
 at-run {s} {table} {ends} so-far run =
     record {
       within = run .within;
@@ -95,14 +97,15 @@ module _ {bytes : List ℕ} {s₀ : State} {k₀ : Mem} {ready : Bool} {taken : 
           let short : length (recordOf bytes taken) ≡ 64 → ⊥ = λ long. some (omega (arith, long, end, length-take 64 (drop (64 * taken) bytes), length-drop (64 * taken) bytes)) in
           at-malformed (omega (arith, some, end)) (not-whole (recordOf bytes taken) short)
 
-pub at-blocked : {bytes : List ℕ} {s₀ : State} {k₀ : Mem} {ready : Bool} {taken : ℕ} {s : State} {table ends : List ℕ} {v : Values}
-    → Going bytes s₀ k₀ ready taken s (memWith table ends v) → BlockedAt bytes ready taken (s .pending) v → progress (took (blockedNumber s) taken s) (memWith table ends v) ≡ eventsCall s₀ k₀ bytes
-at-blocked {s} {table} {ends} so-far stop =
-    at-refused so-far (omega (arith, stop .more-left)) (stop .answers s table ends (so-far .tells)) (refuses (s .waiting))
+pub at-blocked : {bytes : List ℕ} {s₀ : State} {k₀ : Mem} {ready : Bool} {taken : ℕ} {n : ℕ} {s : State} {table ends : List ℕ} {v : Values}
+    → Going bytes s₀ k₀ ready taken s (memWith table ends v) → BlockedAt bytes ready taken n (s .feature) (s .pending) v → progress (took (blockedNumber s n) taken s) (memWith table ends v) ≡ eventsCall s₀ k₀ bytes
+at-blocked {n} {s} {table} {ends} so-far stop =
+    at-refused so-far (omega (arith, stop .more-left)) (stop .answers s table ends (so-far .tells)) (refuses (s .waiting) (belongs (s .feature) n))
   where
-    refuses : (waiting : Bool) → _≡_ {A = ℕ} (cond waiting 15 12) 0 → ⊥
-    refuses true h = omega (arith, h)
-    refuses false h = omega (arith, h)
+    refuses : (waiting own : Bool) → _≡_ {A = ℕ} (cond waiting 15 (cond own 12 17)) 0 → ⊥
+    refuses true own h = omega (arith, h)
+    refuses false true h = omega (arith, h)
+    refuses false false h = omega (arith, h)
 
 -- ---- a call with one whole record comes to what the event comes to
 abbrev answered : Progress → Outcome

@@ -14,7 +14,7 @@ ghost use Rattle.writing.specs.State.{memOf};
 ghost use Rattle.runs.specs.Events.{progress, eventsCall};
 
 // Takes events' records up to the first that is refused: runs of plain events, and between them the others one by one.
-// Refused: 11, 15, 5, 12.
+// Refused: 11, 15, 17, 5, 12.
 pub fn events(
     s: State,
     bytes: &[u8],
@@ -37,8 +37,11 @@ pub fn events(
     let mut state = s;
     let mut taken = 0;
     loop {
-        let run = take_plain(bytes, taken, ready, state.pending, xy, z, m, t, tm);
+        let held = state.feature;
+        let run = take_plain(bytes, taken, ready, held, state.pending, xy, z, m, t, tm);
+        let feature = run.feature;
         let pending = run.pending;
+        state = state.with_feature(feature);
         state.pending = pending;
         taken = run.taken;
         let stop = run.stop;
@@ -50,9 +53,9 @@ pub fn events(
                     state,
                 };
             }
-            Stop::Blocked => {
+            Stop::Blocked { feature: n } => {
                 return Took {
-                    number: blocked_number(state),
+                    number: blocked_number(state, n),
                     taken,
                     state,
                 };
@@ -64,8 +67,11 @@ pub fn events(
                     state,
                 };
             }
-            Stop::Other(e) => {
-                let wrote = take_other(state, ready, e, table, ends);
+            Stop::Other {
+                event: e,
+                feature: n,
+            } => {
+                let wrote = take_other(state, n, ready, e, table, ends);
                 if wrote.number != refusal::DONE {
                     return Took {
                         number: wrote.number,

@@ -102,6 +102,7 @@ fn seen_of(flags: Flags, g: Geometry) -> Seen
 
 fn read_lists(
     log: &mut [u8],
+    feature: u32,
     count: usize,
     xy: &[u64],
     ends: &[u32],
@@ -115,7 +116,7 @@ fn read_lists(
 ) -> Answer
     requires { ⌜ (length (now xy) ≤ 131072) × (length (now ends) ≤ 65536) × Typed own ⌝ }
     ensures { λ r. let C = coordsIn seen (now (xy .entry)) (now (z .entry)) (now (m .entry)) (now (t .entry)) (now (tm .entry)) in
-        ⌜ run events (ownS own C (now (ends .entry)) idx) (now (log .entry)) count ≡ out (r .number) (r .count) (now (log .exit)) ⌝ }
+        ⌜ run (events feature) (ownS own C (now (ends .entry)) idx) (now (log .entry)) count ≡ out (r .number) (r .count) (now (log .exit)) ⌝ }
 {
     match own {
         Own::Point => {
@@ -126,26 +127,56 @@ fn read_lists(
                 size: 0,
                 idx,
             };
-            read_window(log, count, xy, z, m, t, tm, seen, w, f)
+            read_window(log, feature, count, xy, z, m, t, tm, seen, w, f)
         }
         Own::Line { kind, tagged } => {
-            read_line(log, count, xy, z, m, t, tm, seen, kind, tagged, idx)
+            read_line(
+                log,
+                feature,
+                count,
+                xy,
+                z,
+                m,
+                t,
+                tm,
+                seen,
+                kind,
+                tagged,
+                idx,
+            )
         }
         Own::Polygon { tagged } => {
             let kind = geometry_type::POLYGON;
-            read_stretches(log, count, xy, ends, z, m, t, tm, seen, kind, tagged, idx)
+            read_stretches(
+                log,
+                feature,
+                count,
+                xy,
+                ends,
+                z,
+                m,
+                t,
+                tm,
+                seen,
+                kind,
+                tagged,
+                idx,
+            )
         }
         Own::MultiLineString => {
-            read_multilinestring(log, count, xy, ends, z, m, t, tm, seen, idx)
+            read_multilinestring(log, feature, count, xy, ends, z, m, t, tm, seen, idx)
         }
-        Own::Tin => read_tin(log, count, xy, ends, z, m, t, tm, seen, idx),
-        Own::Triangle => { read_triangle(log, count, xy, ends, z, m, t, tm, seen, true, idx) }
+        Own::Tin => read_tin(log, feature, count, xy, ends, z, m, t, tm, seen, idx),
+        Own::Triangle => {
+            read_triangle(log, feature, count, xy, ends, z, m, t, tm, seen, true, idx)
+        }
     }
 }
 
 // A record's own lists, of pools that have them.
 pub fn read_own(
     log: &mut [u8],
+    feature: u32,
     count: usize,
     xy: &[u64],
     ends: &[u32],
@@ -160,7 +191,7 @@ pub fn read_own(
 ) -> Answer
     requires { ⌜ InPools (poolsOf (now xy) (now ends) (now z) (now m) (now t) (now tm)) g × Typed own ⌝ }
     ensures { λ r. let P = poolsOf (now (xy .entry)) (now (ends .entry)) (now (z .entry)) (now (m .entry)) (now (t .entry)) (now (tm .entry)) in
-        ⌜ run events (ownS own (coordsOf flags (listsOf P g)) (orNone (listOf (now (ends .entry)) (g .ends))) idx)
+        ⌜ run (events feature) (ownS own (coordsOf flags (listsOf P g)) (orNone (listOf (now (ends .entry)) (g .ends))) idx)
         (now (log .entry)) count ≡ out (r .number) (r .count) (now (log .exit)) ⌝ }
 {
     let s = g.xy;
@@ -176,5 +207,5 @@ pub fn read_own(
     let s = g.tm;
     let tm = words(tm, s);
     let seen = seen_of(flags, g);
-    read_lists(log, count, xy, ends, z, m, t, tm, seen, own, idx)
+    read_lists(log, feature, count, xy, ends, z, m, t, tm, seen, own, idx)
 }

@@ -31,6 +31,7 @@ ghost use Rattle.reader.specs.Roles.{partS, walkS};
 // read_geometry_n: a record by its walk, as number idx, with so many levels left below it.
 fn read_geometry_n(
     log: &mut [u8],
+    feature: u32,
     count: usize,
     table: &[u8],
     xy: &[u64],
@@ -47,17 +48,32 @@ fn read_geometry_n(
 ) -> Answer
     requires { ⌜ InPools (poolsOf (now xy) (now ends) (now z) (now m) (now t) (now tm)) g × Typed walk ⌝ }
     ensures { λ r. let P = poolsOf (now (xy .entry)) (now (ends .entry)) (now (z .entry)) (now (m .entry)) (now (t .entry)) (now (tm .entry)) in
-        ⌜ run events (walkS flags levels (recordWith (now (table .entry)) P) (listsOf P g) walk idx)
+        ⌜ run (events feature) (walkS flags levels (recordWith (now (table .entry)) P) (listsOf P g) walk idx)
         (now (log .entry)) count ≡ out (r .number) (r .count) (now (log .exit)) ⌝ }
 {
     match walk {
         Walk::Own(own) => {
-            own_lists::read_own(log, count, xy, ends, z, m, t, tm, flags, g, own, idx)
+            own_lists::read_own(
+                log,
+                feature,
+                count,
+                xy,
+                ends,
+                z,
+                m,
+                t,
+                tm,
+                flags,
+                g,
+                own,
+                idx,
+            )
         }
         Walk::Parts { kind, role } => {
             let parts = g.parts;
             read_geometrycollection(
                 log,
+                feature,
                 count,
                 table,
                 xy,
@@ -81,6 +97,7 @@ fn read_geometry_n(
 // read_geometrycollection, read_multipolygon_type and read_curve: a begin, the parts in their role, an end.
 fn read_geometrycollection(
     log: &mut [u8],
+    feature: u32,
     count: usize,
     table: &[u8],
     xy: &[u64],
@@ -98,7 +115,7 @@ fn read_geometrycollection(
 ) -> Answer
     requires { ⌜ kind < 32 ⌝ }
     ensures { λ r. let P = poolsOf (now (xy .entry)) (now (ends .entry)) (now (z .entry)) (now (m .entry)) (now (t .entry)) (now (tm .entry)) in
-        ⌜ run events (spanS (partS flags role levels (recordWith (now (table .entry)) P)) (partsOf parts) kind idx)
+        ⌜ run (events feature) (spanS (partS flags role levels (recordWith (now (table .entry)) P)) (partsOf parts) kind idx)
         (now (log .entry)) count ≡ out (r .number) (r .count) (now (log .exit)) ⌝ }
 {
     let Span::Stretch { start, count: size } = parts else {
@@ -107,7 +124,7 @@ fn read_geometrycollection(
             count,
         };
     };
-    let b = log::say(log, count, Event::begin(kind, false, size, idx));
+    let b = log::say(log, feature, count, Event::begin(kind, false, size, idx));
     if b.number != refusal::DONE {
         return b;
     }
@@ -117,6 +134,7 @@ fn read_geometrycollection(
         let n = (start as usize) + (i as usize);
         let r = read_part(
             log,
+            feature,
             said,
             table,
             xy,
@@ -137,12 +155,13 @@ fn read_geometrycollection(
         said = r.count;
         i += 1;
     }
-    log::say(log, said, Event::end(kind, false, idx))
+    log::say(log, feature, said, Event::end(kind, false, idx))
 }
 
 // The record n as part idx: one level below the record that has it.
 fn read_part(
     log: &mut [u8],
+    feature: u32,
     count: usize,
     table: &[u8],
     xy: &[u64],
@@ -158,7 +177,7 @@ fn read_part(
     levels: u8,
 ) -> Answer
     ensures { λ r. let P = poolsOf (now (xy .entry)) (now (ends .entry)) (now (z .entry)) (now (m .entry)) (now (t .entry)) (now (tm .entry)) in
-        ⌜ run events (partS flags role levels (recordWith (now (table .entry)) P) n idx)
+        ⌜ run (events feature) (partS flags role levels (recordWith (now (table .entry)) P) n idx)
         (now (log .entry)) count ≡ out (r .number) (r .count) (now (log .exit)) ⌝ }
 {
     if levels == 0 {
@@ -173,7 +192,7 @@ fn read_part(
     } = lone_part(table, xy.len(), flags, role, n) {
         let from = start as usize;
         let end = from + words as usize;
-        return lone_ring::read_lone_ring(log, count, &xy[from..end], idx);
+        return lone_ring::read_lone_ring(log, feature, count, &xy[from..end], idx);
     }
     let pools = Lent::new(xy.len(), ends.len(), z.len(), m.len(), t.len(), tm.len());
     match store::record_at(table, pools, n) {
@@ -181,6 +200,7 @@ fn read_part(
             let walk = walk_in(role, g.kind);
             read_geometry_n(
                 log,
+                feature,
                 count,
                 table,
                 xy,
@@ -214,7 +234,7 @@ fn type_of(declared: u8, stored: u8) -> u8
     }
 }
 
-// The tree whose root is record 0, as events from the log's start.
+// The tree whose root is record 0, as events from the log's start, each with the feature's number.
 pub fn read(
     table: &[u8],
     xy: &[u64],
@@ -225,9 +245,10 @@ pub fn read(
     tm: &[u64],
     declared: u8,
     flags: Flags,
+    feature: u32,
     log: &mut [u8],
 ) -> Answer
-    ensures { λ r. ⌜ Said events (readS flags (recordWith (now (table .entry))
+    ensures { λ r. ⌜ Said (events feature) (readS flags (recordWith (now (table .entry))
         (poolsOf (now (xy .entry)) (now (ends .entry)) (now (z .entry)) (now (m .entry)) (now (t .entry)) (now (tm .entry)))) declared)
         (now (log .entry)) (r .number) (r .count) (now (log .exit)) ⌝ }
 {
@@ -237,6 +258,7 @@ pub fn read(
             let walk = walk_of(type_of(declared, g.kind), g.kind);
             read_geometry_n(
                 log,
+                feature,
                 0,
                 table,
                 xy,

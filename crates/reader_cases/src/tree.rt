@@ -15,19 +15,21 @@ const DECLARED: usize = 1;
 
 const FLAGS: usize = 2;
 
-const TABLE: usize = 3;
+const FEATURE: usize = 3;
 
-const ENDS: usize = 5;
+const TABLE: usize = 4;
 
-const XY: usize = 7;
+const ENDS: usize = 6;
 
-const Z: usize = 10;
+const XY: usize = 8;
 
-const M: usize = 13;
+const Z: usize = 11;
 
-const T: usize = 16;
+const M: usize = 14;
 
-const TM: usize = 19;
+const T: usize = 17;
+
+const TM: usize = 20;
 
 // Lays down the table and the pools, and says whether all have their memory.
 pub fn lay_tree(case: &[u8], table: &mut [u8], words: &mut [u64], ends: &mut [u32]) -> bool {
@@ -71,6 +73,7 @@ pub fn read(case: &[u8], table: &[u8], words: &[u64], ends: &[u32], log: &mut [u
         pool(words, case, TM),
         byte(case, DECLARED),
         Flags::of(byte(case, FLAGS)),
+        number(case, FEATURE) as u32,
         log,
     )
 }

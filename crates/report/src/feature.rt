@@ -16,7 +16,10 @@ use kinds::refusal;
 
 pub struct Feature {
     // As people count.
-    pub number: u64,
+    pub ordinal: u64,
+    // Its own number, which is known where an event of it was taken.
+    pub numbered: bool,
+    pub number: u32,
     pub events: usize,
     // Whether anything of it was refused.
     pub refused: bool,
@@ -58,10 +61,18 @@ it has more events than are kept to be compared",
     end_line();
 }
 
+fn say_feature(feature: Feature) {
+    say(b"feature ");
+    say_number(feature.ordinal);
+    if feature.numbered {
+        say(b", number ");
+        say_number(feature.number as u64);
+    }
+}
+
 // Answers whether there is a map to show.
 fn judged(feature: Feature, answer: Answer, sent: &[u8], log: &[u8]) -> bool {
-    say(b"feature ");
-    say_number(feature.number);
+    say_feature(feature);
     let reason = without_map(feature);
     if reason != 0 {
         say_no_map(reason);

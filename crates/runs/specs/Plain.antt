@@ -18,19 +18,27 @@ use Rattle.asking.specs.declared.ask.Ask.{Ask}
 use Rattle.asking.specs.declared.set_type.Typed.{Typed}
 use Rattle.asking.specs.declared.set_type.Typed.the-variants.{Set}
 use Rattle.writing.specs.declared.state.State.{State}
-use Rattle.writing.specs.State.{withPending, recordsUsed, wrote}
+use Rattle.writing.specs.declared.feature.Feature.{Feature}
+use Rattle.writing.specs.declared.feature.Feature.the-variants.{Numbered}
+use Rattle.pending.specs.declared.words.Pending.{Pending}
+use Rattle.writing.specs.Feature.{belongs}
+use Rattle.writing.specs.State.{withFeature, withPending, recordsUsed, wrote}
 use Rattle.asking.specs.Ask.{ask, noWords, pairWith, begun, askOf}
 use Rattle.pending.specs.Room.{hasRoom}
-use Rattle.writing.specs.Calls.{isReady, roomOr, stateAfter, decideEvent}
+use Rattle.writing.specs.Calls.{isReady, roomOr, stateAfter, ifDue, decideEvent}
 use Rattle.pending.specs.Growth.{grownAll}
 
 -- what it asks for
 abbrev pub plain : State → Added → Ask
 plain s added = ask (Set (s .typing)) added false
 
--- why it is refused, where it is: it is not its turn, or there is no room
-abbrev pub blockedNumber : State → ℕ
-blockedNumber s = cond (s .waiting) 15 12
+-- why it is refused under number n, where it is: it is not its turn, it is of another feature, or there is no room
+abbrev pub blockedNumber : State → ℕ → ℕ
+blockedNumber s n = cond (s .waiting) 15 (cond (belongs (s .feature) n) 12 17)
+
+-- a state amid a run: what is in hand and pending may be another's, and all else stays
+abbrev pub amid : State → Feature → Pending → State
+amid s f p = withPending (withFeature s f) p
 
 -- ---- bytes that are an event which asks, in every state, for such words and no more
 pub record PlainEvent (bytes : List ℕ) (added : Added) (e : Event) : Type 0 where
@@ -69,22 +77,24 @@ pub quiet-plain : {bytes : List ℕ} (h : HeardQuiet bytes) → PlainEvent bytes
 quiet-plain h = record { is = h .is; asks = λ s. quiet-asks s (h .event) (h .quiet) }
 
 -- ---- its answer, from the test of readiness and the test of what it adds
-module _ (s : State) (added : Added) (records : ℕ) (pools : Lent) (ready test : Bool) (tells : isReady s records pools ≡ ready) (apart : hasRoom (s .pending) added (recordsUsed s) records pools ≡ (hasRoom (s .pending) noWords (recordsUsed s) records pools && test)) where
+module _ (s : State) (n : ℕ) (added : Added) (records : ℕ) (pools : Lent) (ready test : Bool) (tells : isReady s records pools ≡ ready) (apart : hasRoom (s .pending) added (recordsUsed s) records pools ≡ (hasRoom (s .pending) noWords (recordsUsed s) records pools && test)) where
   abbrev after : State
-  after = withPending s (grownAll (s .pending) added)
+  after = amid s (Numbered n) (grownAll (s .pending) added)
 
   by-room : (b : Bool) → cond b (wrote 0 after) (wrote 12 s) ≡ roomOr s b after
   by-room true = refl
   by-room false = refl
 
-  pub plain-decides : cond (ready && test) (wrote 0 (withPending s (grownAll (s .pending) added))) (wrote (blockedNumber s) s) ≡ decideEvent s (plain s added) records pools
-  unfolding decideEvent stateAfter
-  plain-decides = by-turn (s .waiting) tells
+  pub plain-decides : cond (belongs (s .feature) n && ready && test) (wrote 0 (amid s (Numbered n) (grownAll (s .pending) added))) (wrote (blockedNumber s n) s) ≡ decideEvent s n (plain s added) records pools
+  unfolding decideEvent ifDue stateAfter
+  plain-decides = by-turn (s .waiting) (belongs (s .feature) n) tells
     where
-      by-turn : (waiting : Bool) → (not waiting && hasRoom (s .pending) noWords (recordsUsed s) records pools) ≡ ready
-          → cond (ready && test) (wrote 0 after) (wrote (cond waiting 15 12) s) ≡ cond waiting (wrote 15 s) (roomOr s (hasRoom (s .pending) added (recordsUsed s) records pools) after)
-      by-turn true tells = ap (λ (b : Bool). cond (b && test) (wrote 0 after) (wrote 15 s)) (sym tells)
-      by-turn false tells =
+      by-turn : (waiting own : Bool) → (not waiting && hasRoom (s .pending) noWords (recordsUsed s) records pools) ≡ ready
+          → cond (own && ready && test) (wrote 0 after) (wrote (cond waiting 15 (cond own 12 17)) s) ≡ cond waiting (wrote 15 s) (cond own (roomOr s (hasRoom (s .pending) added (recordsUsed s) records pools) after) (wrote 17 s))
+      by-turn true true tells = ap (λ (b : Bool). cond (b && test) (wrote 0 after) (wrote 15 s)) (sym tells)
+      by-turn true false tells = refl
+      by-turn false false tells = refl
+      by-turn false true tells =
           ap (λ (b : Bool). cond (b && test) (wrote 0 after) (wrote 12 s)) (sym tells)
           ∙ ap (λ (b : Bool). cond b (wrote 0 after) (wrote 12 s)) (sym apart)
           ∙ by-room (hasRoom (s .pending) added (recordsUsed s) records pools)

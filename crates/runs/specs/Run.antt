@@ -13,27 +13,29 @@ use Rattle.kinds.specs.Lanes.{xyL, endsL, zL, mL, tL, tmL}
 use Rattle.kinds.specs.declared.event.Event.{Event}
 use Rattle.kinds.specs.declared.geometry.Lent.{Lent}
 use Rattle.store.specs.Lists.{poolsOf, lentOf}
-use Rattle.log.specs.Log.{heard}
+use Rattle.log.specs.Log.{heard, featureIn}
 use Rattle.log.specs.LogLaws.{HeardPair, HeardCoordinate, HeardQuiet}
 use Rattle.store.specs.Records.{recordsLent}
 use Rattle.asking.specs.declared.ask.Added.{Added}
-use Rattle.asking.specs.declared.ask.Ask.{Ask}
 use Rattle.runs.specs.declared.run.Reached.{Reached}
 use Rattle.runs.specs.declared.run.Stop.{Stop}
 use Rattle.runs.specs.declared.run.Stop.the-variants.{End, Blocked, Other, Malformed as Unheard}
 use Rattle.pending.specs.declared.words.Pending.{Pending}
+use Rattle.writing.specs.declared.feature.Feature.{Feature}
+use Rattle.writing.specs.declared.feature.Feature.the-variants.{Numbered}
 use Rattle.writing.specs.declared.state.State.{State}
 use Rattle.pending.specs.declared.words.Words.{Words}
 use Rattle.writing.specs.declared.state.Wrote.{Wrote}
 use Rattle.pending.specs.Words.{words, used}
-use Rattle.writing.specs.State.{withPending, recordsUsed, Mem, memOf, Outcome, outcome, settled, wrote}
+use Rattle.writing.specs.Feature.{belongs}
+use Rattle.writing.specs.State.{recordsUsed, Mem, memOf, Outcome, outcome, settled, wrote}
 use Rattle.asking.specs.Ask.{noWords, pairWith}
 use Rattle.pending.specs.Room.{roomIn, hasRoom, and-true, room-tested, room-apart, ValuesFit, room-in}
 use Rattle.writing.specs.Calls.{isReady, tableAfter, memAfter, eventWith, eventCall}
 use Rattle.pending.specs.Growth.{grown, grownAll, grownValues}
 use Rattle.writing.specs.Ends.{well-formed}
 use Rattle.runs.specs.Events.{recordOf, recordsIn, eventsFrom, went-on}
-use Rattle.runs.specs.Plain.{blockedNumber, PlainEvent, pair-plain, coordinate-plain, quiet-plain, plain-decides}
+use Rattle.runs.specs.Plain.{blockedNumber, amid, PlainEvent, pair-plain, coordinate-plain, quiet-plain, plain-decides}
 use Rattle.writing.specs.Ready.{same-ready, event-ready}
 use Rattle.writing.specs.Apart.{is-ready}
 
@@ -147,40 +149,41 @@ values-apart p v xy z m t tm records table ends =
     })
 
 -- ---- what a plain event comes to, from the test of readiness and its own
-refused-so : (s : State) (k after : Mem) → settled (wrote (blockedNumber s) s) k after ≡ outcome (wrote (blockedNumber s) s) k
-refused-so s k after = by-turn (s .waiting)
+refused-so : (s : State) (n : ℕ) (k after : Mem) → settled (wrote (blockedNumber s n) s) k after ≡ outcome (wrote (blockedNumber s n) s) k
+refused-so s n k after = by-tests (s .waiting) (belongs (s .feature) n)
   where
-    by-turn : (waiting : Bool) → outcome (wrote (cond waiting 15 12) s) (cond (eqb (cond waiting 15 12) 0) after k) ≡ outcome (wrote (cond waiting 15 12) s) k
-    by-turn true = refl
-    by-turn false = refl
+    by-tests : (waiting own : Bool) → outcome (wrote (cond waiting 15 (cond own 12 17)) s) (cond (eqb (cond waiting 15 (cond own 12 17)) 0) after k) ≡ outcome (wrote (cond waiting 15 (cond own 12 17)) s) k
+    by-tests true own = refl
+    by-tests false true = refl
+    by-tests false false = refl
 
 module _ (s : State) (table ends : List ℕ) (v : Values) (xy z m t tm : Bool) (ready test : Bool) (tells : isReady s (recordsLent table) (lentWith ends v) ≡ ready) (apart : Apart (s .pending) v (valuesWith xy z m t tm) test) where
-  comes-to : (bytes : List ℕ) (e : Event) → PlainEvent bytes (valuesWith xy z m t tm) e
-      → cond (ready && test)
-      (outcome (wrote 0 (withPending s (grownAll (s .pending) (valuesWith xy z m t tm)))) (memWith table ends (pushed v (s .pending) (valuesWith xy z m t tm) e)))
-      (outcome (wrote (blockedNumber s) s) (memWith table ends v))
+  comes-to : (bytes : List ℕ) (n : ℕ) (e : Event) → n ≡ featureIn bytes → PlainEvent bytes (valuesWith xy z m t tm) e
+      → cond (belongs (s .feature) n && ready && test)
+      (outcome (wrote 0 (amid s (Numbered n) (grownAll (s .pending) (valuesWith xy z m t tm)))) (memWith table ends (pushed v (s .pending) (valuesWith xy z m t tm) e)))
+      (outcome (wrote (blockedNumber s n) s) (memWith table ends v))
       ≡ eventCall s (memWith table ends v) bytes
   unfolding eventWith memAfter tableAfter
-  comes-to bytes e event =
-      by-tests (ready && test)
-      ∙ ap (λ (w : Wrote). settled w (memWith table ends v) (memWith table ends (pushed v (s .pending) (valuesWith xy z m t tm) e))) (plain-decides s (valuesWith xy z m t tm) (recordsLent table) (lentWith ends v) ready test tells (apart (recordsUsed s) table ends))
-      ∙ ap (λ (a : Ask). eventWith s a e (memWith table ends v)) (sym (event .asks s))
+  comes-to bytes n e number event =
+      by-tests (belongs (s .feature) n && ready && test)
+      ∙ ap (λ (w : Wrote). settled w (memWith table ends v) (memWith table ends (pushed v (s .pending) (valuesWith xy z m t tm) e))) (plain-decides s n (valuesWith xy z m t tm) (recordsLent table) (lentWith ends v) ready test tells (apart (recordsUsed s) table ends))
+      ∙ (λ i. eventWith s (number i) (sym (event .asks s) i) e (memWith table ends v))
       ∙ well-formed s (memWith table ends v) e bytes (sym (event .is)) refl refl
     where
       by-tests : (b : Bool)
           → cond b
-          (outcome (wrote 0 (withPending s (grownAll (s .pending) (valuesWith xy z m t tm)))) (memWith table ends (pushed v (s .pending) (valuesWith xy z m t tm) e)))
-          (outcome (wrote (blockedNumber s) s) (memWith table ends v))
-          ≡ settled (cond b (wrote 0 (withPending s (grownAll (s .pending) (valuesWith xy z m t tm)))) (wrote (blockedNumber s) s)) (memWith table ends v) (memWith table ends (pushed v (s .pending) (valuesWith xy z m t tm) e))
+          (outcome (wrote 0 (amid s (Numbered n) (grownAll (s .pending) (valuesWith xy z m t tm)))) (memWith table ends (pushed v (s .pending) (valuesWith xy z m t tm) e)))
+          (outcome (wrote (blockedNumber s n) s) (memWith table ends v))
+          ≡ settled (cond b (wrote 0 (amid s (Numbered n) (grownAll (s .pending) (valuesWith xy z m t tm)))) (wrote (blockedNumber s n) s)) (memWith table ends v) (memWith table ends (pushed v (s .pending) (valuesWith xy z m t tm) e))
       by-tests true = refl
-      by-tests false = sym (refused-so s (memWith table ends v) (memWith table ends (pushed v (s .pending) (valuesWith xy z m t tm) e)))
+      by-tests false = sym (refused-so s n (memWith table ends v) (memWith table ends (pushed v (s .pending) (valuesWith xy z m t tm) e)))
 
 -- the bytes of a whole record
 pub whole-record : (bytes : List ℕ) (i : ℕ) → take (64 * i + 64 - 64 * i) (drop (64 * i) bytes) ≡ recordOf bytes i
 whole-record bytes i = let wide : 64 * i + 64 - 64 * i ≡ 64 = omega arith in ap (λ (n : ℕ). take n (drop (64 * i) bytes)) wide
 
 -- ---- a run, from a record on: what is left to do comes to the same, in every state and memory that the run knows nothing of
-pub record Run (bytes : List ℕ) (ready : Bool) (from : ℕ) (p : Pending) (v : Values) (taken : ℕ) (p′ : Pending) (v′ : Values) : Type 0 where
+pub record Run (bytes : List ℕ) (ready : Bool) (from : ℕ) (f : Feature) (p : Pending) (v : Values) (taken : ℕ) (f′ : Feature) (p′ : Pending) (v′ : Values) : Type 0 where
   pub begun : from ≤ taken
   pub within : taken ≤ length bytes / 64
   pub long-xy : length (v′ .xy) ≡ length (v .xy)
@@ -188,33 +191,33 @@ pub record Run (bytes : List ℕ) (ready : Bool) (from : ℕ) (p : Pending) (v :
   pub long-m : length (v′ .m) ≡ length (v .m)
   pub long-t : length (v′ .t) ≡ length (v .t)
   pub long-tm : length (v′ .tm) ≡ length (v .tm)
-  pub still : (s : State) (table ends : List ℕ) → isReady (withPending s p) (recordsLent table) (lentWith ends v) ≡ ready → isReady (withPending s p′) (recordsLent table) (lentWith ends v′) ≡ ready
-  pub rest : (s : State) (table ends : List ℕ) → isReady (withPending s p) (recordsLent table) (lentWith ends v) ≡ ready
-      → eventsFrom (recordsIn bytes - taken) taken bytes (withPending s p′) (memWith table ends v′) ≡ eventsFrom (recordsIn bytes - from) from bytes (withPending s p) (memWith table ends v)
+  pub still : (s : State) (table ends : List ℕ) → isReady (amid s f p) (recordsLent table) (lentWith ends v) ≡ ready → isReady (amid s f′ p′) (recordsLent table) (lentWith ends v′) ≡ ready
+  pub rest : (s : State) (table ends : List ℕ) → isReady (amid s f p) (recordsLent table) (lentWith ends v) ≡ ready
+      → eventsFrom (recordsIn bytes - taken) taken bytes (amid s f′ p′) (memWith table ends v′) ≡ eventsFrom (recordsIn bytes - from) from bytes (amid s f p) (memWith table ends v)
 
 -- why it stops
-pub record BlockedAt (bytes : List ℕ) (ready : Bool) (taken : ℕ) (p : Pending) (v : Values) : Type 0 where
+pub record BlockedAt (bytes : List ℕ) (ready : Bool) (taken n : ℕ) (f : Feature) (p : Pending) (v : Values) : Type 0 where
   pub more-left : taken < length bytes / 64
-  pub answers : (s : State) (table ends : List ℕ) → isReady (withPending s p) (recordsLent table) (lentWith ends v) ≡ ready
-      → outcome (wrote (blockedNumber s) (withPending s p)) (memWith table ends v) ≡ eventCall (withPending s p) (memWith table ends v) (recordOf bytes taken)
+  pub answers : (s : State) (table ends : List ℕ) → isReady (amid s f p) (recordsLent table) (lentWith ends v) ≡ ready
+      → outcome (wrote (blockedNumber (amid s f p) n) (amid s f p)) (memWith table ends v) ≡ eventCall (amid s f p) (memWith table ends v) (recordOf bytes taken)
 
-abbrev pub Stopped : List ℕ → Bool → ℕ → Pending → Values → Stop → Type 0
-Stopped bytes ready taken p v End = taken ≡ length bytes / 64
-Stopped bytes ready taken p v Blocked = BlockedAt bytes ready taken p v
-Stopped bytes ready taken p v (Other e) = (taken < length bytes / 64) × (heard (recordOf bytes taken) ≡ WellFormed e) × (e .kind < 64)
-Stopped bytes ready taken p v Unheard = (taken < length bytes / 64) × (heard (recordOf bytes taken) ≡ Malformed)
+abbrev pub Stopped : List ℕ → Bool → ℕ → Feature → Pending → Values → Stop → Type 0
+Stopped bytes ready taken f p v End = taken ≡ length bytes / 64
+Stopped bytes ready taken f p v (Blocked n) = BlockedAt bytes ready taken n f p v
+Stopped bytes ready taken f p v (Other e n) = (taken < length bytes / 64) × (heard (recordOf bytes taken) ≡ WellFormed e) × (e .kind < 64) × (n ≡ featureIn (recordOf bytes taken))
+Stopped bytes ready taken f p v Unheard = (taken < length bytes / 64) × (heard (recordOf bytes taken) ≡ Malformed)
 
-pub record Ran (bytes : List ℕ) (ready : Bool) (from : ℕ) (p : Pending) (v : Values) (r : Reached) (v′ : Values) : Type 0 where
-  pub run : Run bytes ready from p v (r .taken) (r .pending) v′
-  pub stop : Stopped bytes ready (r .taken) (r .pending) v′ (r .stop)
+pub record Ran (bytes : List ℕ) (ready : Bool) (from : ℕ) (f : Feature) (p : Pending) (v : Values) (r : Reached) (v′ : Values) : Type 0 where
+  pub run : Run bytes ready from f p v (r .taken) (r .feature) (r .pending) v′
+  pub stop : Stopped bytes ready (r .taken) (r .feature) (r .pending) v′ (r .stop)
 
-pub none-taken : (bytes : List ℕ) (ready : Bool) (from : ℕ) (p : Pending) (v : Values) → from ≤ length bytes / 64 → Run bytes ready from p v from p v
-none-taken bytes ready from p v within =
+pub none-taken : (bytes : List ℕ) (ready : Bool) (from : ℕ) (f : Feature) (p : Pending) (v : Values) → from ≤ length bytes / 64 → Run bytes ready from f p v from f p v
+none-taken bytes ready from f p v within =
     record { begun = omega arith; within = within; long-xy = refl; long-z = refl; long-m = refl; long-t = refl; long-tm = refl; still = λ s table ends tells. tells; rest = λ s table ends tells. refl }
 
-module _ {bytes : List ℕ} {ready : Bool} {from : ℕ} {p : Pending} {v : Values} {taken : ℕ} {p′ : Pending} {v′ : Values} (so-far : Run bytes ready from p v taken p′ v′) (more-left : taken < length bytes / 64) where
-  module _ (xy z m t tm : Bool) (e : Event) (test : Bool) (event : PlainEvent (recordOf bytes taken) (valuesWith xy z m t tm) e) (apart : Apart p′ v′ (valuesWith xy z m t tm) test) where
-    one-more : (ready && test) ≡ true → Run bytes ready from p v (taken + 1) (grownAll p′ (valuesWith xy z m t tm)) (pushed v′ p′ (valuesWith xy z m t tm) e)
+module _ {bytes : List ℕ} {ready : Bool} {from : ℕ} {f : Feature} {p : Pending} {v : Values} {taken : ℕ} {f′ : Feature} {p′ : Pending} {v′ : Values} (so-far : Run bytes ready from f p v taken f′ p′ v′) (more-left : taken < length bytes / 64) where
+  module _ (xy z m t tm : Bool) (n : ℕ) (e : Event) (test : Bool) (number : n ≡ featureIn (recordOf bytes taken)) (event : PlainEvent (recordOf bytes taken) (valuesWith xy z m t tm) e) (apart : Apart p′ v′ (valuesWith xy z m t tm) test) where
+    one-more : (belongs f′ n && ready && test) ≡ true → Run bytes ready from f p v (taken + 1) (Numbered n) (grownAll p′ (valuesWith xy z m t tm)) (pushed v′ p′ (valuesWith xy z m t tm) e)
     one-more ok =
         record {
           begun = omega (arith, so-far .begun);
@@ -226,16 +229,16 @@ module _ {bytes : List ℕ} {ready : Bool} {from : ℕ} {p : Pending} {v : Value
           long-tm = same-tm ∙ so-far .long-tm;
           still = λ s table ends tells.
               let is = taken-so s table ends (so-far .still s table ends tells) in
-              is-ready (withPending s (grownAll p′ (valuesWith xy z m t tm))) (recordsLent table) (lentWith ends (pushed v′ p′ (valuesWith xy z m t tm) e))
+              is-ready (amid s (Numbered n) (grownAll p′ (valuesWith xy z m t tm))) (recordsLent table) (lentWith ends (pushed v′ p′ (valuesWith xy z m t tm) e))
               (same-ready (ap (λ (o : Outcome). o .wrote .state) (sym is)) refl (same-lent ends)
-              (event-ready (withPending s p′) (memWith table ends v′) (recordOf bytes taken) (ap (λ (o : Outcome). o .wrote .number) (sym is))))
-              ∙ sym (both ready test ok .0);
+              (event-ready (amid s f′ p′) (memWith table ends v′) (recordOf bytes taken) (ap (λ (o : Outcome). o .wrote .number) (sym is))))
+              ∙ sym (both (belongs f′ n) ready (both (belongs f′ n && ready) test ok .0) .1);
           rest = λ s table ends tells.
               let is = taken-so s table ends (so-far .still s table ends tells) in
               let left : ℕ = recordsIn bytes - (taken + 1) in
               let one-less : suc left ≡ recordsIn bytes - taken = omega (arith, more-left) in
-              went-on left taken bytes (withPending s p′) (memWith table ends v′) is refl
-              ∙ ap (λ (n : ℕ). eventsFrom n taken bytes (withPending s p′) (memWith table ends v′)) one-less
+              went-on left taken bytes (amid s f′ p′) (memWith table ends v′) is refl
+              ∙ ap (λ (n : ℕ). eventsFrom n taken bytes (amid s f′ p′) (memWith table ends v′)) one-less
               ∙ so-far .rest s table ends tells;
         }
       where
@@ -257,19 +260,19 @@ module _ {bytes : List ℕ} {ready : Bool} {from : ℕ} {p : Pending} {v : Value
         same-lent : (ends : List ℕ) → lentWith ends v′ ≡ lentWith ends (pushed v′ p′ (valuesWith xy z m t tm) e)
         same-lent ends = sym (λ i. record { xy = same-xy i; ends = length ends; z = same-z i; m = same-m i; t = same-t i; tm = same-tm i })
 
-        taken-so : (s : State) (table ends : List ℕ) → isReady (withPending s p′) (recordsLent table) (lentWith ends v′) ≡ ready
-            → outcome (wrote 0 (withPending s (grownAll p′ (valuesWith xy z m t tm)))) (memWith table ends (pushed v′ p′ (valuesWith xy z m t tm) e)) ≡ eventCall (withPending s p′) (memWith table ends v′) (recordOf bytes taken)
+        taken-so : (s : State) (table ends : List ℕ) → isReady (amid s f′ p′) (recordsLent table) (lentWith ends v′) ≡ ready
+            → outcome (wrote 0 (amid s (Numbered n) (grownAll p′ (valuesWith xy z m t tm)))) (memWith table ends (pushed v′ p′ (valuesWith xy z m t tm) e)) ≡ eventCall (amid s f′ p′) (memWith table ends v′) (recordOf bytes taken)
         taken-so s table ends tells =
-            ap (λ (b : Bool). cond b (outcome (wrote 0 (withPending s (grownAll p′ (valuesWith xy z m t tm)))) (memWith table ends (pushed v′ p′ (valuesWith xy z m t tm) e))) (outcome (wrote (blockedNumber s) (withPending s p′)) (memWith table ends v′))) (sym ok)
-            ∙ comes-to (withPending s p′) table ends v′ xy z m t tm ready test tells apart (recordOf bytes taken) e event
+            ap (λ (b : Bool). cond b (outcome (wrote 0 (amid s (Numbered n) (grownAll p′ (valuesWith xy z m t tm)))) (memWith table ends (pushed v′ p′ (valuesWith xy z m t tm) e))) (outcome (wrote (blockedNumber (amid s f′ p′) n) (amid s f′ p′)) (memWith table ends v′))) (sym ok)
+            ∙ comes-to (amid s f′ p′) table ends v′ xy z m t tm ready test tells apart (recordOf bytes taken) n e number event
 
-    blocked : (ready && test) ≡ false → BlockedAt bytes ready taken p′ v′
+    blocked : (belongs f′ n && ready && test) ≡ false → BlockedAt bytes ready taken n f′ p′ v′
     blocked not-so =
         record {
           more-left = more-left;
           answers = λ s table ends tells.
-              ap (λ (b : Bool). cond b (outcome (wrote 0 (withPending s (grownAll p′ (valuesWith xy z m t tm)))) (memWith table ends (pushed v′ p′ (valuesWith xy z m t tm) e))) (outcome (wrote (blockedNumber s) (withPending s p′)) (memWith table ends v′))) (sym not-so)
-              ∙ comes-to (withPending s p′) table ends v′ xy z m t tm ready test tells apart (recordOf bytes taken) e event;
+              ap (λ (b : Bool). cond b (outcome (wrote 0 (amid s (Numbered n) (grownAll p′ (valuesWith xy z m t tm)))) (memWith table ends (pushed v′ p′ (valuesWith xy z m t tm) e))) (outcome (wrote (blockedNumber (amid s f′ p′) n) (amid s f′ p′)) (memWith table ends v′))) (sym not-so)
+              ∙ comes-to (amid s f′ p′) table ends v′ xy z m t tm ready test tells apart (recordOf bytes taken) n e number event;
         }
 
 -- ---- each of the three: a pair,
@@ -292,38 +295,38 @@ pair-grown p = (λ i. record { xy = words (p .xy .start) (p .xy .count + 2); end
 none-grown : (p : Pending) → p ≡ grownAll p noWords
 none-grown p = (λ i. record { xy = same (p .xy) i; ends = p .ends; z = same (p .z) i; m = same (p .m) i; t = same (p .t) i; tm = same (p .tm) i }) ∙ grown-lanes p noWords refl
 
-same-run : {bytes : List ℕ} {ready : Bool} {from : ℕ} {p : Pending} {v : Values} {taken : ℕ} {p′ p″ : Pending} {v′ v″ : Values} → p′ ≡ p″ → v′ ≡ v″ → Run bytes ready from p v taken p″ v″ → Run bytes ready from p v taken p′ v′
-same-run {bytes} {ready} {from} {p} {v} {taken} {p′} {p″} {v′} {v″} pending values run = rw (pending, values) run
+same-run : {bytes : List ℕ} {ready : Bool} {from : ℕ} {f : Feature} {p : Pending} {v : Values} {taken : ℕ} {f′ : Feature} {p′ p″ : Pending} {v′ v″ : Values} → p′ ≡ p″ → v′ ≡ v″ → Run bytes ready from f p v taken f′ p″ v″ → Run bytes ready from f p v taken f′ p′ v′
+same-run {bytes} {ready} {from} {f} {p} {v} {taken} {f′} {p′} {p″} {v′} {v″} pending values run = rw (pending, values) run
 
-module _ {bytes : List ℕ} {ready : Bool} {from : ℕ} {p : Pending} {v : Values} {taken : ℕ} {p′ : Pending} {v′ : Values} (so-far : Run bytes ready from p v taken p′ v′) (more-left : taken < length bytes / 64) where
-  pub pair-taken : {x y : ℕ} → HeardPair (recordOf bytes taken) x y → (ready && pairRoom p′ (length (v′ .xy))) ≡ true → {xy : List ℕ} → xy ≡ sets (v′ .xy) (used (p′ .xy)) (x ∷ y ∷ [])
-      → Run bytes ready from p v (taken + 1) (withPair p′) (valuesOf xy (v′ .z) (v′ .m) (v′ .t) (v′ .tm))
+module _ {bytes : List ℕ} {ready : Bool} {from : ℕ} {f : Feature} {p : Pending} {v : Values} {taken : ℕ} {f′ : Feature} {p′ : Pending} {v′ : Values} (so-far : Run bytes ready from f p v taken f′ p′ v′) (more-left : taken < length bytes / 64) {n : ℕ} (number : n ≡ featureIn (recordOf bytes taken)) where
+  pub pair-taken : {x y : ℕ} → HeardPair (recordOf bytes taken) x y → (belongs f′ n && ready && pairRoom p′ (length (v′ .xy))) ≡ true → {xy : List ℕ} → xy ≡ sets (v′ .xy) (used (p′ .xy)) (x ∷ y ∷ [])
+      → Run bytes ready from f p v (taken + 1) (Numbered n) (withPair p′) (valuesOf xy (v′ .z) (v′ .m) (v′ .t) (v′ .tm))
   pair-taken h ok xy-is =
       same-run (pair-grown p′) (λ i. valuesOf ((xy-is ∙ sym (λ j. sets (v′ .xy) (used (p′ .xy)) (h .x-is j ∷ h .y-is j ∷ []))) i) (v′ .z) (v′ .m) (v′ .t) (v′ .tm))
-      (one-more so-far more-left true false false false false (h .event) (pairRoom p′ (length (v′ .xy))) (pair-plain h) (pair-apart p′ v′) ok)
+      (one-more so-far more-left true false false false false n (h .event) (pairRoom p′ (length (v′ .xy))) number (pair-plain h) (pair-apart p′ v′) ok)
 
-  pub pair-blocked : {x y : ℕ} → HeardPair (recordOf bytes taken) x y → (ready && pairRoom p′ (length (v′ .xy))) ≡ false → BlockedAt bytes ready taken p′ v′
-  pair-blocked h not-so = blocked so-far more-left true false false false false (h .event) (pairRoom p′ (length (v′ .xy))) (pair-plain h) (pair-apart p′ v′) not-so
+  pub pair-blocked : {x y : ℕ} → HeardPair (recordOf bytes taken) x y → (belongs f′ n && ready && pairRoom p′ (length (v′ .xy))) ≡ false → BlockedAt bytes ready taken n f′ p′ v′
+  pair-blocked h not-so = blocked so-far more-left true false false false false n (h .event) (pairRoom p′ (length (v′ .xy))) number (pair-plain h) (pair-apart p′ v′) not-so
 
   -- ---- a begin that sets no type,
-  pub quiet-taken : HeardQuiet (recordOf bytes taken) → ready ≡ true → Run bytes ready from p v (taken + 1) p′ v′
-  quiet-taken h ok = same-run (none-grown p′) refl (one-more so-far more-left false false false false false (h .event) true (quiet-plain h) (quiet-apart p′ v′) (and-true ok refl))
+  pub quiet-taken : HeardQuiet (recordOf bytes taken) → (belongs f′ n && ready) ≡ true → Run bytes ready from f p v (taken + 1) (Numbered n) p′ v′
+  quiet-taken h ok = same-run (none-grown p′) refl (one-more so-far more-left false false false false false n (h .event) true number (quiet-plain h) (quiet-apart p′ v′) (and-true ok refl))
 
-  pub quiet-blocked : HeardQuiet (recordOf bytes taken) → ready ≡ false → BlockedAt bytes ready taken p′ v′
-  quiet-blocked h not-so = blocked so-far more-left false false false false false (h .event) true (quiet-plain h) (quiet-apart p′ v′) (ap (λ (b : Bool). b && true) not-so)
+  pub quiet-blocked : HeardQuiet (recordOf bytes taken) → (belongs f′ n && ready) ≡ false → BlockedAt bytes ready taken n f′ p′ v′
+  quiet-blocked h not-so = blocked so-far more-left false false false false false n (h .event) true number (quiet-plain h) (quiet-apart p′ v′) (ap (λ (b : Bool). b && true) not-so)
 
   -- ---- and a coordinate
   module _ (e : Event) (h : HeardCoordinate (recordOf bytes taken) e) where
     abbrev test : Bool
     test = valuesRoom p′ (pairWith (e .present)) (length (v′ .xy)) (length (v′ .z)) (length (v′ .m)) (length (v′ .t)) (length (v′ .tm))
 
-    pub coordinate-taken : (ready && test) ≡ true → {p″ : Pending} {v″ : Values} → p″ ≡ grownValues p′ (pairWith (e .present)) → v″ ≡ pushed v′ p′ (pairWith (e .present)) e → Run bytes ready from p v (taken + 1) p″ v″
+    pub coordinate-taken : (belongs f′ n && ready && test) ≡ true → {p″ : Pending} {v″ : Values} → p″ ≡ grownValues p′ (pairWith (e .present)) → v″ ≡ pushed v′ p′ (pairWith (e .present)) e → Run bytes ready from f p v (taken + 1) (Numbered n) p″ v″
     coordinate-taken ok pending-is values-are =
         same-run (pending-is ∙ grown-lanes p′ (pairWith (e .present)) refl) values-are
-        (one-more so-far more-left true _ _ _ _ e test (coordinate-plain e h) (values-apart p′ v′ true _ _ _ _) ok)
+        (one-more so-far more-left true _ _ _ _ n e test number (coordinate-plain e h) (values-apart p′ v′ true _ _ _ _) ok)
 
-    pub coordinate-blocked : (ready && test) ≡ false → BlockedAt bytes ready taken p′ v′
-    coordinate-blocked not-so = blocked so-far more-left true _ _ _ _ e test (coordinate-plain e h) (values-apart p′ v′ true _ _ _ _) not-so
+    pub coordinate-blocked : (belongs f′ n && ready && test) ≡ false → BlockedAt bytes ready taken n f′ p′ v′
+    coordinate-blocked not-so = blocked so-far more-left true _ _ _ _ n e test number (coordinate-plain e h) (values-apart p′ v′ true _ _ _ _) not-so
 
 -- ---- a pair by itself: what a run of one comes to
 one-or-other : (b : Bool) (after s : State) (number : ℕ) (table xy xy′ ends z m t tm : List ℕ)
@@ -331,15 +334,15 @@ one-or-other : (b : Bool) (after s : State) (number : ℕ) (table xy xy′ ends 
 one-or-other true after s number table xy xy′ ends z m t tm = refl
 one-or-other false after s number table xy xy′ ends z m t tm = refl
 
-pub pair-alone : (s : State) (table xy ends z m t tm bytes : List ℕ) {x y : ℕ} {ready : Bool} {r : Wrote} {xy′ : List ℕ} → HeardPair bytes x y
+pub pair-alone : (s : State) (table xy ends z m t tm bytes : List ℕ) {n x y : ℕ} {ready : Bool} {r : Wrote} {xy′ : List ℕ} → n ≡ featureIn bytes → HeardPair bytes x y
     → isReady s (recordsLent table) (lentOf (poolsOf xy ends z m t tm)) ≡ ready
-    → r ≡ cond (ready && pairRoom (s .pending) (length xy)) (wrote 0 (withPending s (withPair (s .pending)))) (wrote (blockedNumber s) s)
-    → xy′ ≡ cond (ready && pairRoom (s .pending) (length xy)) (sets xy (used (s .pending .xy)) (x ∷ y ∷ [])) xy
+    → r ≡ cond (belongs (s .feature) n && ready && pairRoom (s .pending) (length xy)) (wrote 0 (amid s (Numbered n) (withPair (s .pending)))) (wrote (blockedNumber s n) s)
+    → xy′ ≡ cond (belongs (s .feature) n && ready && pairRoom (s .pending) (length xy)) (sets xy (used (s .pending .xy)) (x ∷ y ∷ [])) xy
     → outcome r (memOf table xy′ ends z m t tm) ≡ eventCall s (memOf table xy ends z m t tm) bytes
-pair-alone s table xy ends z m t tm bytes {x} {y} {ready} h tells answer xy-is =
-    let room : Bool = ready && pairRoom (s .pending) (length xy) in
+pair-alone s table xy ends z m t tm bytes {n} {x} {y} {ready} number h tells answer xy-is =
+    let room : Bool = belongs (s .feature) n && ready && pairRoom (s .pending) (length xy) in
     let same-pair : sets xy (used (s .pending .xy)) (x ∷ y ∷ []) ≡ sets xy (used (s .pending .xy)) (h .event .x ∷ h .event .y ∷ []) = sym (λ i. sets xy (used (s .pending .xy)) (h .x-is i ∷ h .y-is i ∷ [])) in
     (λ i. outcome (answer i) (memOf table (xy-is i) ends z m t tm))
-    ∙ (λ i. outcome (cond room (wrote 0 (withPending s (pair-grown (s .pending) i))) (wrote (blockedNumber s) s)) (memOf table (cond room (same-pair i) xy) ends z m t tm))
-    ∙ one-or-other room (withPending s (grownAll (s .pending) (pairWith 0))) s (blockedNumber s) table xy (sets xy (used (s .pending .xy)) (h .event .x ∷ h .event .y ∷ [])) ends z m t tm
-    ∙ comes-to s table ends (valuesOf xy z m t tm) true false false false false ready (pairRoom (s .pending) (length xy)) tells (pair-apart (s .pending) (valuesOf xy z m t tm)) bytes (h .event) (pair-plain h)
+    ∙ (λ i. outcome (cond room (wrote 0 (amid s (Numbered n) (pair-grown (s .pending) i))) (wrote (blockedNumber s n) s)) (memOf table (cond room (same-pair i) xy) ends z m t tm))
+    ∙ one-or-other room (amid s (Numbered n) (grownAll (s .pending) (pairWith 0))) s (blockedNumber s n) table xy (sets xy (used (s .pending .xy)) (h .event .x ∷ h .event .y ∷ [])) ends z m t tm
+    ∙ comes-to s table ends (valuesOf xy z m t tm) true false false false false ready (pairRoom (s .pending) (length xy)) tells (pair-apart (s .pending) (valuesOf xy z m t tm)) bytes n (h .event) number (pair-plain h)

@@ -1,16 +1,22 @@
 // A plain event that is refused.
 use kinds::refusal;
+use writing::feature::belongs;
 use writing::state::State;
 ghost use mathlib.Core.Path.{_≡_};
 ghost use Rattle.runs.specs.Plain.{blockedNumber};
 
-// Why a plain event is refused: it is not its turn, or there is no room.
-pub fn blocked_number(s: State) -> u8
-    ensures { λ r. ⌜ r ≡ blockedNumber s ⌝ }
+// Why a plain event of number n is refused: it is not its turn, it is of another feature, or there is no room.
+pub fn blocked_number(s: State, n: u32) -> u8
+    ensures { λ r. ⌜ r ≡ blockedNumber s n ⌝ }
 {
+    let feature = s.feature;
+    let own = belongs(feature, n);
     if s.waiting {
-        refusal::NOT_ITS_TURN
-    } else {
+        return refusal::NOT_ITS_TURN;
+    }
+    if own {
         refusal::NO_ROOM
+    } else {
+        refusal::OTHER_FEATURE
     }
 }

@@ -9,6 +9,8 @@ use pending::growth::grown_values;
 use pending::room::lane_room;
 use pending::words::Pending;
 use pending::words::Words;
+use writing::feature::Feature;
+use writing::feature::belongs;
 ghost use mathlib.Core.Path.{_≡_};
 ghost use mathlib.Core.Bool.{true, cond};
 ghost use mathlib.Core.List.{[], _∷_};
@@ -23,17 +25,18 @@ ghost use Rattle.runs.specs.Run.{valuesRoom, valuesOf, Ran};
 pub enum Stop {
     // There is no whole record left.
     End,
-    // The next event is plain, and there is no room for it, or it is not its turn.
-    Blocked,
-    // The next event is not plain.
-    Other(Event),
+    // The next event is plain, and of this number: there is no room for it, it is not its turn, or it is of another feature.
+    Blocked { feature: u32 },
+    // The next event is not plain, and of this number.
+    Other { event: Event, feature: u32 },
     // The next record is no event.
     Malformed,
 }
 
-// How far a run goes: up to a record, and what is pending there.
+// How far a run goes: up to a record, and what is in hand and pending there.
 pub struct Reached {
     pub taken: usize,
+    pub feature: Feature,
     pub pending: Pending,
     pub stop: Stop,
 }
@@ -89,6 +92,7 @@ pub fn take_plain(
     bytes: &[u8],
     from: usize,
     ready: bool,
+    f: Feature,
     p: Pending,
     xy: &mut [u64],
     z: &mut [u64],
@@ -99,33 +103,38 @@ pub fn take_plain(
     requires { ⌜ from ≤ length (now bytes) / 64 ⌝ }
     ensures { λ r. let before = valuesOf (now (xy .entry)) (now (z .entry)) (now (m .entry)) (now (t .entry)) (now (tm .entry)) in
         let after = valuesOf (now (xy .exit)) (now (z .exit)) (now (m .exit)) (now (t .exit)) (now (tm .exit)) in
-        ⌜ Ran (now (bytes .entry)) ready from p before r after ⌝ }
+        ⌜ Ran (now (bytes .entry)) ready from f p before r after ⌝ }
 {
     let whole = bytes.len() / 64;
+    let mut feature = f;
     let mut pending = p;
     let mut taken = from;
     while taken < whole {
         let begin = 64 * taken;
         let end = begin + 64;
+        let n = log::feature_in(&bytes[begin..end]);
+        let due = belongs(feature, n) & ready;
         let heard = log::hear(&bytes[begin..end]);
         match heard {
             Heard::Pair { x, y } => {
-                if !(ready & lane_room(pending.xy, true, Words::PAIR, xy.len(), usable::XY_WORDS)) {
+                if !(due & lane_room(pending.xy, true, Words::PAIR, xy.len(), usable::XY_WORDS)) {
                     return Reached {
                         taken,
+                        feature,
                         pending,
-                        stop: Stop::Blocked,
+                        stop: Stop::Blocked { feature: n },
                     };
                 }
                 pools::push_pair(xy, pending.xy, true, x, y);
                 let count = pending.xy.count + Words::PAIR;
                 pending.xy.count = count;
+                feature = Feature::Numbered(n);
                 taken += 1;
                 continue;
             }
             Heard::Coordinate(e) => {
                 let added = pair_with(e.present);
-                if !(ready
+                if !(due
                     & values_room(
                         pending,
                         added,
@@ -137,35 +146,44 @@ pub fn take_plain(
                     )) {
                     return Reached {
                         taken,
+                        feature,
                         pending,
-                        stop: Stop::Blocked,
+                        stop: Stop::Blocked { feature: n },
                     };
                 }
                 pending = push_values(pending, added, e, xy, z, m, t, tm);
+                feature = Feature::Numbered(n);
                 taken += 1;
                 continue;
             }
             Heard::Quiet => {
-                if !ready {
+                if !due {
                     return Reached {
                         taken,
+                        feature,
                         pending,
-                        stop: Stop::Blocked,
+                        stop: Stop::Blocked { feature: n },
                     };
                 }
+                feature = Feature::Numbered(n);
                 taken += 1;
                 continue;
             }
             Heard::Other(e) => {
                 return Reached {
                     taken,
+                    feature,
                     pending,
-                    stop: Stop::Other(e),
+                    stop: Stop::Other {
+                        event: e,
+                        feature: n,
+                    },
                 };
             }
             Heard::Malformed => {
                 return Reached {
                     taken,
+                    feature,
                     pending,
                     stop: Stop::Malformed,
                 };
@@ -174,6 +192,7 @@ pub fn take_plain(
     }
     Reached {
         taken,
+        feature,
         pending,
         stop: Stop::End,
     }

@@ -15,7 +15,9 @@ use replay::word;
 // Where the parts of a case stand.
 const NUMBER: usize = 1;
 
-const HEARD_EVENT: usize = 2;
+const FEATURE: usize = 2;
+
+const HEARD_EVENT: usize = 3;
 
 const LOG_LENGTH: usize = 2;
 
@@ -35,9 +37,22 @@ fn number_of(heard: Heard) -> usize {
     }
 }
 
+// Only a record has the number of a feature.
+fn feature_of(event: &[u8]) -> usize {
+    if event.len() != EVENT_BYTES {
+        return 0;
+    }
+    log::feature_in(event) as usize
+}
+
 pub fn heard(case: &[u8]) -> u8 {
-    let heard = log::hear(bytes_from(case, HEARD_EVENT));
+    let event = bytes_from(case, HEARD_EVENT);
+    let heard = log::hear(event);
     unless(number_of(heard) == number(case, NUMBER), difference::NUMBER)
+        | unless(
+            feature_of(event) == number(case, FEATURE),
+            difference::ANSWER,
+        )
 }
 
 pub fn said(case: &[u8], memory: &mut [u8]) -> u8 {
@@ -50,8 +65,8 @@ pub fn said(case: &[u8], memory: &mut [u8]) -> u8 {
 
 fn said_to(log: &mut [u8], case: &[u8]) -> u8 {
     replay::clear(log);
-    let e = event_of(first(bytes_from(case, SAID_EVENT), EVENT_BYTES));
-    say(log, e, case)
+    let record = first(bytes_from(case, SAID_EVENT), EVENT_BYTES);
+    say(log, number(record, 3) as u32, event_of(record), case)
 }
 
 // The event of a record, as SPEC 3.2 lays it out. It is not heard by the store, which may have no need of all of it.
@@ -72,8 +87,8 @@ fn event_of(record: &[u8]) -> Event {
     }
 }
 
-fn say(log: &mut [u8], e: Event, case: &[u8]) -> u8 {
-    let answer = log::say(log, word(case, COUNT) as usize, e);
+fn say(log: &mut [u8], feature: u32, e: Event, case: &[u8]) -> u8 {
+    let answer = log::say(log, feature, word(case, COUNT) as usize, e);
     differences(answer, log, case)
 }
 

@@ -15,6 +15,7 @@ ghost use Rattle.lines.specs.Lines.{triangleAt, trianglesS, triangleS, tinS};
 // A triangle whose one line goes from pair `before` to pair `end`.
 fn read_triangle_at(
     log: &mut [u8],
+    feature: u32,
     count: usize,
     xy: &[u64],
     z: &[u64],
@@ -29,22 +30,37 @@ fn read_triangle_at(
 ) -> Answer
     requires { ⌜ length (now xy) ≤ 131072 ⌝ }
     ensures { λ r. let C = coordsIn seen (now (xy .entry)) (now (z .entry)) (now (m .entry)) (now (t .entry)) (now (tm .entry)) in
-        ⌜ run events (triangleAt C tagged before end idx) (now (log .entry)) count ≡ out (r .number) (r .count) (now (log .exit)) ⌝ }
+        ⌜ run (events feature) (triangleAt C tagged before end idx) (now (log .entry)) count ≡ out (r .number) (r .count) (now (log .exit)) ⌝ }
 {
     let b = log::say(
         log,
+        feature,
         count,
         Event::begin(geometry_type::TRIANGLE, tagged, 1, idx),
     );
     if b.number != refusal::DONE {
         return b;
     }
-    let r = lines::read_multilinestring_part(log, b.count, xy, z, m, t, tm, seen, before, end, 0);
+    let r = lines::read_multilinestring_part(
+        log,
+        feature,
+        b.count,
+        xy,
+        z,
+        m,
+        t,
+        tm,
+        seen,
+        before,
+        end,
+        0,
+    );
     if r.number != refusal::DONE {
         return r;
     }
     log::say(
         log,
+        feature,
         r.count,
         Event::end(geometry_type::TRIANGLE, tagged, idx),
     )
@@ -52,6 +68,7 @@ fn read_triangle_at(
 
 fn read_triangles(
     log: &mut [u8],
+    feature: u32,
     count: usize,
     xy: &[u64],
     ends: &[u32],
@@ -64,7 +81,7 @@ fn read_triangles(
 ) -> Answer
     requires { ⌜ (length (now xy) ≤ 131072) × (length (now ends) ≤ 65536) ⌝ }
     ensures { λ r. let C = coordsIn seen (now (xy .entry)) (now (z .entry)) (now (m .entry)) (now (t .entry)) (now (tm .entry)) in
-        ⌜ run events (trianglesS C (now (ends .entry)) tagged 0 0) (now (log .entry)) count ≡ out (r .number) (r .count) (now (log .exit)) ⌝ }
+        ⌜ run (events feature) (trianglesS C (now (ends .entry)) tagged 0 0) (now (log .entry)) count ≡ out (r .number) (r .count) (now (log .exit)) ⌝ }
 {
     let mut said = count;
     let mut before: u32 = 0;
@@ -72,7 +89,21 @@ fn read_triangles(
     while i < ends.len() {
         let end = ends[i];
         let idx = i as u32;
-        let r = read_triangle_at(log, said, xy, z, m, t, tm, seen, tagged, before, end, idx);
+        let r = read_triangle_at(
+            log,
+            feature,
+            said,
+            xy,
+            z,
+            m,
+            t,
+            tm,
+            seen,
+            tagged,
+            before,
+            end,
+            idx,
+        );
         if r.number != refusal::DONE {
             return r;
         }
@@ -88,6 +119,7 @@ fn read_triangles(
 
 pub fn read_triangle(
     log: &mut [u8],
+    feature: u32,
     count: usize,
     xy: &[u64],
     ends: &[u32],
@@ -101,7 +133,7 @@ pub fn read_triangle(
 ) -> Answer
     requires { ⌜ (length (now xy) ≤ 131072) × (length (now ends) ≤ 65536) ⌝ }
     ensures { λ r. let C = coordsIn seen (now (xy .entry)) (now (z .entry)) (now (m .entry)) (now (t .entry)) (now (tm .entry)) in
-        ⌜ run events (triangleS C (now (ends .entry)) tagged idx) (now (log .entry)) count ≡ out (r .number) (r .count) (now (log .exit)) ⌝ }
+        ⌜ run (events feature) (triangleS C (now (ends .entry)) tagged idx) (now (log .entry)) count ≡ out (r .number) (r .count) (now (log .exit)) ⌝ }
 {
     if lines::nothing_there(seen.xy, ends.len()) {
         return Answer {
@@ -111,14 +143,29 @@ pub fn read_triangle(
     }
     if ends.len() <= 1 {
         let kind = geometry_type::TRIANGLE;
-        lines::read_stretches(log, count, xy, ends, z, m, t, tm, seen, kind, tagged, idx)
+        lines::read_stretches(
+            log,
+            feature,
+            count,
+            xy,
+            ends,
+            z,
+            m,
+            t,
+            tm,
+            seen,
+            kind,
+            tagged,
+            idx,
+        )
     } else {
-        read_triangles(log, count, xy, ends, z, m, t, tm, seen, tagged)
+        read_triangles(log, feature, count, xy, ends, z, m, t, tm, seen, tagged)
     }
 }
 
 pub fn read_tin(
     log: &mut [u8],
+    feature: u32,
     count: usize,
     xy: &[u64],
     ends: &[u32],
@@ -131,20 +178,26 @@ pub fn read_tin(
 ) -> Answer
     requires { ⌜ (length (now xy) ≤ 131072) × (length (now ends) ≤ 65536) ⌝ }
     ensures { λ r. let C = coordsIn seen (now (xy .entry)) (now (z .entry)) (now (m .entry)) (now (t .entry)) (now (tm .entry)) in
-        ⌜ run events (tinS C (now (ends .entry)) idx) (now (log .entry)) count ≡ out (r .number) (r .count) (now (log .exit)) ⌝ }
+        ⌜ run (events feature) (tinS C (now (ends .entry)) idx) (now (log .entry)) count ≡ out (r .number) (r .count) (now (log .exit)) ⌝ }
 {
     let size = lines::stretches(ends.len());
     let b = log::say(
         log,
+        feature,
         count,
         Event::begin(geometry_type::TIN, false, size, idx),
     );
     if b.number != refusal::DONE {
         return b;
     }
-    let r = read_triangle(log, b.count, xy, ends, z, m, t, tm, seen, false, 0);
+    let r = read_triangle(log, feature, b.count, xy, ends, z, m, t, tm, seen, false, 0);
     if r.number != refusal::DONE {
         return r;
     }
-    log::say(log, r.count, Event::end(geometry_type::TIN, false, idx))
+    log::say(
+        log,
+        feature,
+        r.count,
+        Event::end(geometry_type::TIN, false, idx),
+    )
 }

@@ -2,7 +2,6 @@
 mod properties;
 
 use asking::typing::Typing;
-use kinds::event::Bare;
 use kinds::geometry::Lent;
 use kinds::refusal;
 use many::events;
@@ -12,10 +11,15 @@ pub use properties::property;
 use runs::take_alone;
 use writing::decide::decide_finish;
 use writing::decide::decide_next;
+use writing::feature::Feature;
 use writing::ready::is_ready;
 use writing::state::State;
 use writing::state::Wrote;
 ghost use mathlib.Core.Path.{_≡_};
+ghost use mathlib.Core.List.{List};
+ghost use Prim.Native.Nat.{ℕ};
+ghost use Rattle.log.specs.Log.{featureIn};
+ghost use Rattle.log.specs.LogLaws.{HeardPair};
 ghost use Rattle.writing.specs.State.{memOf, outcome};
 ghost use Rattle.writing.specs.Calls.{started, eventCall, finishCall, nextCall};
 
@@ -43,11 +47,36 @@ pub fn start(declared: u8, detect: bool, promote: bool) -> State
         waiting: false,
         parts: 0,
         properties: 0,
+        feature: Feature::Open,
         pending,
     }
 }
 
-// Takes an event's record. Refused: 11, 15, 5, 12.
+// Takes a pair given by itself, for a feature's number: what `event` does with a record that is heard so. Refused: 15, 17, 12.
+pub fn pair(
+    s: State,
+    n: u32,
+    x: u64,
+    y: u64,
+    table: &[u8],
+    xy: &mut [u64],
+    ends: &[u32],
+    z: &[u64],
+    m: &[u64],
+    t: &[u64],
+    tm: &[u64],
+) -> Wrote
+    ensures { λ r.
+        let before = memOf (now (table .entry)) (now (xy .entry)) (now (ends .entry)) (now (z .entry)) (now (m .entry)) (now (t .entry)) (now (tm .entry)) in
+        let after = memOf (now (table .exit)) (now (xy .exit)) (now (ends .exit)) (now (z .exit)) (now (m .exit)) (now (t .exit)) (now (tm .exit)) in
+        ⌜ ((bytes : List ℕ) → n ≡ featureIn bytes → HeardPair bytes x y → outcome r after ≡ eventCall s before bytes) ⌝ }
+{
+    let pools = Lent::new(xy.len(), ends.len(), z.len(), m.len(), t.len(), tm.len());
+    let records = store::records_lent(table);
+    take_alone(s, n, is_ready(s, records, pools), x, y, xy)
+}
+
+// Takes an event's record. Refused: 11, 15, 17, 5, 12.
 pub fn event(
     s: State,
     bytes: &[u8],
@@ -64,21 +93,13 @@ pub fn event(
         let after = memOf (now (table .exit)) (now (xy .exit)) (now (ends .exit)) (now (z .exit)) (now (m .exit)) (now (t .exit)) (now (tm .exit)) in
         ⌜ outcome r after ≡ eventCall s before (now (bytes .entry)) ⌝ }
 {
-    let bare = log::hear_bare(bytes);
-    if let Bare::Pair { x, y } = bare {
-        let pools = Lent::new(xy.len(), ends.len(), z.len(), m.len(), t.len(), tm.len());
-        let records = store::records_lent(table);
-        return take_alone(s, is_ready(s, records, pools), x, y, xy);
-    }
     if bytes.len() != 64 {
         return Wrote {
             number: refusal::MALFORMED,
             state: s,
         };
     }
-    // A state of its own to hand on, so that the pair above has it in registers.
-    let given = s;
-    let took = events(given, bytes, table, xy, ends, z, m, t, tm);
+    let took = events(s, bytes, table, xy, ends, z, m, t, tm);
     let state = took.state;
     Wrote {
         number: took.number,

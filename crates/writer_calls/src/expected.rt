@@ -20,6 +20,9 @@ pub const FINISH: usize = 4;
 
 pub const NEXT: usize = 5;
 
+// No call: the state is handed over with the words that the case has.
+pub const WORDS: usize = 6;
+
 // How many bytes a number takes, then the sort, then the first word of the state, then the numbers.
 const STATE_HEAD: usize = 2;
 
@@ -133,6 +136,16 @@ pub fn state_byte(case: &[u8], k: usize) -> u8
 
 fn whole(word: u32) -> usize {
     word as usize
+}
+
+// The words that the state is to have.
+pub fn hand_over(case: &[u8], state: &mut StateWords) {
+    state[0] = replay::number(past(case, STATE_HEAD), 0) as u32;
+    let mut k = 1;
+    while k < STATE_WORDS {
+        state[k] = number(case, STATE + k - 1) as u32;
+        k += 1;
+    }
 }
 
 fn is_state(case: &[u8], state: &StateWords) -> bool {

@@ -17,6 +17,12 @@ fn start(case: &[u8], state: &mut StateWords) -> Answered {
     alone(0)
 }
 
+// A state as its caller may have kept it, in whose words anything may stand that is not looked at.
+fn hand_over(case: &[u8], state: &mut StateWords) -> Answered {
+    expected::hand_over(case, state);
+    alone(0)
+}
+
 fn alone(number: u8) -> Answered {
     Answered { number, taken: 0 }
 }
@@ -64,6 +70,7 @@ pub fn make(
         }
         expected::FINISH => alone(bintolage::bintolage_finish(state, table, xy, ends, z, m, t, tm)),
         expected::NEXT => alone(bintolage::bintolage_next(state, table, xy, ends, z, m, t, tm)),
+        expected::WORDS => hand_over(case, state),
         _ => start(case, state),
     }
 }

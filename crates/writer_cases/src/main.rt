@@ -27,6 +27,7 @@ fn report(counted: &Tally) {
     report_given(counted);
     tally::print_sort(counted, expected::FINISH, b"finishes");
     tally::print_sort(counted, expected::NEXT, b"nexts");
+    tally::print_sort(counted, expected::WORDS, b"states handed over");
     tally::print_total(counted);
 }
 

@@ -5,9 +5,11 @@ use Prim.Native.Nat.{ℕ}
 use lib.Dec.{eqb}
 use Rattle.kinds.specs.Event.{Parsed}
 use Rattle.kinds.specs.Event.{WellFormed, Malformed}
-use Rattle.log.specs.Log.{heard}
+use Rattle.log.specs.Log.{heard, featureIn}
+use Rattle.writing.specs.declared.feature.Feature.{Feature}
 use Rattle.writing.specs.declared.state.State.{State}
 use Rattle.writing.specs.State.{Mem, Outcome}
+use Rattle.writing.specs.Feature.{belongs}
 use Rattle.writing.specs.Calls.{eventCall, finishCall, nextCall}
 use Rattle.writer_model.specs.Writer.{Writer, waits, after, nay, finish, next}
 
@@ -30,15 +32,15 @@ afterCall w (eventC bytes) = hears w (heard bytes)
 afterCall w finishC = finish w
 afterCall w nextC = next w
 
--- the number with which a writer refuses what it hears, but for want of room
-abbrev pub nayHeard : Writer → Parsed → ℕ
-nayHeard w Malformed = 11
-nayHeard w (WellFormed e) = nay w e
+-- the number with which a writer that has a feature in hand refuses what it hears under number n, but for want of room
+abbrev pub nayHeard : Feature → ℕ → Writer → Parsed → ℕ
+nayHeard f n w Malformed = 11
+nayHeard f n w (WellFormed e) = cond (waits w) 15 (cond (belongs f n) (nay w e) 17)
 
-abbrev pub nayCall : Writer → Call → ℕ
-nayCall w (eventC bytes) = nayHeard w (heard bytes)
-nayCall w finishC = cond (waits w) 15 0
-nayCall w nextC = cond (waits w) 0 15
+abbrev pub nayCall : Feature → Writer → Call → ℕ
+nayCall f w (eventC bytes) = nayHeard f (featureIn bytes) w (heard bytes)
+nayCall f w finishC = cond (waits w) 15 0
+nayCall f w nextC = cond (waits w) 0 15
 
 -- with the room there is
 abbrev pub answer : ℕ → Bool → ℕ

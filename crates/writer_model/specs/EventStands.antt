@@ -57,7 +57,7 @@ same-values s s′ e mL q = refl
 same-values s s′ e tL q = refl
 same-values s s′ e tmL q = refl
 
-module _ (s : State) (k : Mem) (w : Writer) (h : Stands s k w) (e : Event) (a : Added) (to : Typing) where
+module _ (s : State) (k : Mem) (w : Writer) (h : Stands s k w) (number : ℕ) (e : Event) (a : Added) (to : Typing) where
   abbrev p′ : Pending
   p′ = grownAll (s .pending) a
 
@@ -85,7 +85,7 @@ module _ (s : State) (k : Mem) (w : Writer) (h : Stands s k w) (e : Event) (a : 
             rw (pool-by (poolAfter s asks e (k .pools)) m) (front-same u (poolIn (k .pools) m) _ kept (wordsIn (s .pending) m .start) (omega arith))
 
   abbrev Result : Typed → Bool → Type 0
-  Result typed part = Stands (stateAfter s (ask typed a part) to) (memAfter s (ask typed a part) e k) (acted w (ask typed a part) e to)
+  Result typed part = Stands (stateAfter s number (ask typed a part) to) (memAfter s (ask typed a part) e k) (acted w (ask typed a part) e to)
 
   -- no part is finished
   added-stands : (typed : Typed) → Room (s .pending) a (recordsFor s (ask typed a false)) k → s .waiting ≡ false → Result typed false
@@ -128,7 +128,7 @@ module _ (s : State) (k : Mem) (w : Writer) (h : Stands s k w) (e : Event) (a : 
       table = putRecord (k .table) (s .parts + 1) g
 
       s′ : State
-      s′ = stateAfter s (ask typed a true) to
+      s′ = stateAfter s number (ask typed a true) to
 
       k′ : Mem
       k′ = memAfter s (ask typed a true) e k
@@ -159,12 +159,12 @@ module _ (s : State) (k : Mem) (w : Writer) (h : Stands s k w) (e : Event) (a : 
   asked-stands typed true = parted-stands typed
   asked-stands typed false = added-stands typed
 
-pub event-stands : (s : State) (k : Mem) (w : Writer) (e : Event) → Stands s k w → eventWith s (askOf (s .typing) e) e k .wrote .number ≡ 0
-    → Stands (eventWith s (askOf (s .typing) e) e k .wrote .state) (eventWith s (askOf (s .typing) e) e k .mem) (after w e)
+pub event-stands : (s : State) (k : Mem) (w : Writer) (n : ℕ) (e : Event) → Stands s k w → eventWith s n (askOf (s .typing) e) e k .wrote .number ≡ 0
+    → Stands (eventWith s n (askOf (s .typing) e) e k .wrote .state) (eventWith s n (askOf (s .typing) e) e k .mem) (after w e)
 unfolding eventWith
-event-stands s k w e h q =
+event-stands s k w n e h q =
     let a : Ask = askOf (s .typing) e in
-    let t = took-event s a k q in
+    let t = took-event s n a k q in
     let b : askOf (w .typing) e .typed ≡ Set (t .to) = ap (λ (g : Typing). askOf g e .typed) (sym (h .typing)) ∙ t .typed in
     let c : after w e ≡ acted w a e (t .to) = after-is w e (t .to) b ∙ ap (λ (g : Typing). acted w (askOf g e) e (t .to)) (sym (h .typing)) in
-    rw (t .is, c) (asked-stands s k w h e (a .added) (t .to) (a .typed) (a .part) (t .has) (t .going))
+    rw (t .is, c) (asked-stands s k w h n e (a .added) (t .to) (a .typed) (a .part) (t .has) (t .going))

@@ -1,8 +1,8 @@
--- Events given one after another, in their own bytes: that all are accepted is one test, which looks at no memory but the lent lengths.
+-- Events given one after another, in their own bytes, under one number: that all are accepted is one test, which looks at no memory but the lent lengths.
 use mathlib.Core.Path.{_≡_, refl, _∙_}
 use mathlib.Core.Bool.{Bool, true, _&&_}
 use mathlib.Core.List.{List, [], _∷_, _++_, append-nil, append-assoc}
-use Prim.Native.Nat.{ℕ}
+use Prim.Native.Nat.{ℕ, _<_}
 use lib.Dec.{ltb, eqb}
 use borrow.Author.Tests.{ltb-true, eqb-true}
 use Rattle.laws.specs.Every.{both}
@@ -10,7 +10,7 @@ use Rattle.kinds.specs.Event.{wellFormed, EventSized, WellFormed}
 use Rattle.kinds.specs.declared.event.Event.{Event}
 use Rattle.kinds.specs.declared.geometry.Lent.{Lent}
 use Rattle.store.specs.Lists.{lentOf}
-use Rattle.log.specs.Log.{events, heard, hear-said}
+use Rattle.log.specs.Log.{events, heard, featureIn, hear-said, feature-said}
 use Rattle.store.specs.Records.{recordsLent}
 use Rattle.writing.specs.declared.state.State.{State}
 use Rattle.writing.specs.declared.state.Wrote.{Wrote}
@@ -54,50 +54,50 @@ sized-is e h =
     }
 
 -- ---- one event
-abbrev pub given : State → Mem → Event → Outcome
-given s k e = eventWith s (askOf (s .typing) e) e k
+abbrev pub given : State → ℕ → Mem → Event → Outcome
+given s n k e = eventWith s n (askOf (s .typing) e) e k
 
-said-reached : {s : State} {k : Mem} {w : Writer} {l : List ℕ} (e : Event) → heard (events .bytes e) ≡ WellFormed e → given s k e .wrote .number ≡ 0 → Reached s k w l
-    → Reached (given s k e .wrote .state) (given s k e .mem) (after w e) (l ++ pairOf e)
+said-reached : {s : State} {k : Mem} {w : Writer} {l : List ℕ} (n : ℕ) (e : Event) → heard (events n .bytes e) ≡ WellFormed e → featureIn (events n .bytes e) ≡ n → given s n k e .wrote .number ≡ 0 → Reached s k w l
+    → Reached (given s n k e .wrote .state) (given s n k e .mem) (after w e) (l ++ pairOf e)
 unfolding eventCall
-said-reached {s} {k} {w} {l} e hears q r = rw hears at (accepted {s = s} {k = k} {w = w} {l = l} (eventC (events .bytes e)) (rw hears q) r)
+said-reached {s} {k} {w} {l} n e hears numbered q r = rw (hears, numbered) at (accepted {s = s} {k = k} {w = w} {l = l} (eventC (events n .bytes e)) (rw (hears, numbered) q) r)
 
 -- ---- a row of events, each lent what the last one left; the tests see the numbers of records and words that are lent
-abbrev pub decided : State → ℕ → Lent → Event → Wrote
-decided s records pools e = decideEvent s (askOf (s .typing) e) records pools
+abbrev pub decided : State → ℕ → ℕ → Lent → Event → Wrote
+decided s n records pools e = decideEvent s n (askOf (s .typing) e) records pools
 
-abbrev pub takes : State → ℕ → Lent → List Event → Bool
-takes s records pools [] = true
-takes s records pools (e ∷ es) = wellFormed e && sized e && eqb (decided s records pools e .number) 0 && takes (decided s records pools e .state) records pools es
+abbrev pub takes : State → ℕ → ℕ → Lent → List Event → Bool
+takes s n records pools [] = true
+takes s n records pools (e ∷ es) = wellFormed e && sized e && eqb (decided s n records pools e .number) 0 && takes (decided s n records pools e .state) n records pools es
 
-abbrev pub fedState : State → ℕ → Lent → List Event → State
-fedState s records pools [] = s
-fedState s records pools (e ∷ es) = fedState (decided s records pools e .state) records pools es
+abbrev pub fedState : State → ℕ → ℕ → Lent → List Event → State
+fedState s n records pools [] = s
+fedState s n records pools (e ∷ es) = fedState (decided s n records pools e .state) n records pools es
 
-abbrev pub fedTo : State → Mem → List Event → State
-fedTo s k es = fedState s (recordsLent (k .table)) (lentOf (k .pools)) es
+abbrev pub fedTo : State → ℕ → Mem → List Event → State
+fedTo s n k es = fedState s n (recordsLent (k .table)) (lentOf (k .pools)) es
 
-abbrev pub fedMem : State → Mem → List Event → Mem
-fedMem s k [] = k
-fedMem s k (e ∷ es) = fedMem (given s k e .wrote .state) (given s k e .mem) es
+abbrev pub fedMem : State → ℕ → Mem → List Event → Mem
+fedMem s n k [] = k
+fedMem s n k (e ∷ es) = fedMem (given s n k e .wrote .state) n (given s n k e .mem) es
 
 abbrev pub pairsOf : List Event → List ℕ
 pairsOf [] = []
 pairsOf (e ∷ es) = pairOf e ++ pairsOf es
 
-pub record Fed (s : State) (k : Mem) (w : Writer) (l : List ℕ) (es : List Event) : Type 0 where
-  pub reached : Reached (fedTo s k es) (fedMem s k es) (afterAll w es) (l ++ pairsOf es)
-  pub lengths : SameLengths k (fedMem s k es)
+pub record Fed (s : State) (n : ℕ) (k : Mem) (w : Writer) (l : List ℕ) (es : List Event) : Type 0 where
+  pub reached : Reached (fedTo s n k es) (fedMem s n k es) (afterAll w es) (l ++ pairsOf es)
+  pub lengths : SameLengths k (fedMem s n k es)
 
 -- what the test of a row says of its first event, and of those behind it
-module _ (e : Event) (es : List Event) (s : State) (k : Mem) (h : takes s (recordsLent (k .table)) (lentOf (k .pools)) (e ∷ es) ≡ true) where
+module _ (e : Event) (es : List Event) (s : State) (n : ℕ) (k : Mem) (h : takes s n (recordsLent (k .table)) (lentOf (k .pools)) (e ∷ es) ≡ true) where
   abbrev one : Outcome
-  one = given s k e
+  one = given s n k e
 
-  apart : (wellFormed e ≡ true) × (sized e ≡ true) × (one .wrote .number ≡ 0) × (takes (one .wrote .state) (recordsLent (k .table)) (lentOf (k .pools)) es ≡ true)
+  apart : (wellFormed e ≡ true) × (sized e ≡ true) × (one .wrote .number ≡ 0) × (takes (one .wrote .state) n (recordsLent (k .table)) (lentOf (k .pools)) es ≡ true)
   unfolding eventWith
   apart =
-      let b = both (wellFormed e && sized e && eqb (one .wrote .number) 0) (takes (one .wrote .state) (recordsLent (k .table)) (lentOf (k .pools)) es) h in
+      let b = both (wellFormed e && sized e && eqb (one .wrote .number) 0) (takes (one .wrote .state) n (recordsLent (k .table)) (lentOf (k .pools)) es) h in
       let c = both (wellFormed e && sized e) (eqb (one .wrote .number) 0) (b .0) in
       let d = both (wellFormed e) (sized e) (c .0) in
       (d .0, d .1, eqb-true _ 0 (c .1), b .1)
@@ -105,28 +105,32 @@ module _ (e : Event) (es : List Event) (s : State) (k : Mem) (h : takes s (recor
   pub first-done : one .wrote .number ≡ 0
   first-done = apart .2
 
-  pub first-heard : heard (events .bytes e) ≡ WellFormed e
-  first-heard = hear-said e (sized-is e (apart .1)) (apart .0)
+  pub first-heard : heard (events n .bytes e) ≡ WellFormed e
+  first-heard = hear-said n e (sized-is e (apart .1)) (apart .0)
+
+  pub first-numbered : n < 4294967296 → featureIn (events n .bytes e) ≡ n
+  first-numbered fits = feature-said n e fits
 
   pub first-lengths : SameLengths k (one .mem)
-  first-lengths = event-lengths s k e first-done
+  first-lengths = event-lengths s k n e first-done
 
-  pub takes-rest : takes (one .wrote .state) (recordsLent (one .mem .table)) (lentOf (one .mem .pools)) es ≡ true
+  pub takes-rest : takes (one .wrote .state) n (recordsLent (one .mem .table)) (lentOf (one .mem .pools)) es ≡ true
   takes-rest = rw (first-lengths .table, lent-same k (one .mem) first-lengths) (apart .3)
 
   -- the state that the row comes to
-  pub fed-rest : fedTo (one .wrote .state) (one .mem) es ≡ fedTo s k (e ∷ es)
+  pub fed-rest : fedTo (one .wrote .state) n (one .mem) es ≡ fedTo s n k (e ∷ es)
   unfolding eventWith
   fed-rest = rw (first-lengths .table, lent-same k (one .mem) first-lengths)
 
-pub fed : (es : List Event) (s : State) (k : Mem) (w : Writer) (l : List ℕ) → takes s (recordsLent (k .table)) (lentOf (k .pools)) es ≡ true → Reached s k w l → Fed s k w l es
+pub fed : (es : List Event) (s : State) (n : ℕ) (k : Mem) (w : Writer) (l : List ℕ) → n < 4294967296 → takes s n (recordsLent (k .table)) (lentOf (k .pools)) es ≡ true → Reached s k w l → Fed s n k w l es
 unfolding afterAll
-fed [] s k w l h r = record { reached = rw (append-nil l) r; lengths = record { table = refl; pools = λ n. refl } }
-fed (e ∷ es) s k w l h r =
-    let n = first-lengths e es s k h in
-    let o : Outcome = given s k e in
-    let f = fed es (o .wrote .state) (o .mem) (after w e) (l ++ pairOf e) (takes-rest e es s k h) (said-reached e (first-heard e es s k h) (first-done e es s k h) r) in
+fed [] s n k w l fits h r = record { reached = rw (append-nil l) r; lengths = record { table = refl; pools = λ m. refl } }
+fed (e ∷ es) s n k w l fits h r =
+    let kept = first-lengths e es s n k h in
+    let o : Outcome = given s n k e in
+    let one = said-reached n e (first-heard e es s n k h) (first-numbered e es s n k h fits) (first-done e es s n k h) r in
+    let f = fed es (o .wrote .state) n (o .mem) (after w e) (l ++ pairOf e) fits (takes-rest e es s n k h) one in
     record {
-      reached = rw (fed-rest e es s k h, append-assoc) at (f .reached);
-      lengths = record { table = f .lengths .table ∙ n .table; pools = λ m. f .lengths .pools m ∙ n .pools m };
+      reached = rw (fed-rest e es s n k h, append-assoc) at (f .reached);
+      lengths = record { table = f .lengths .table ∙ kept .table; pools = λ m. f .lengths .pools m ∙ kept .pools m };
     }

@@ -1,4 +1,4 @@
--- A state is the writer's typing, counts and lengths, and nothing more but the properties' length; so all the words of a writer fit the usable room.
+-- A state is the writer's typing, counts and lengths, and nothing more but the properties' length and the feature in hand; so all the words of a writer fit the usable room.
 use mathlib.Core.Path.{_≡_}
 use Prim.Native.Nat.{_+_, _≤_}
 use native.Mathlib.Omega.{arith}

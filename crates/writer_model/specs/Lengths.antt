@@ -11,7 +11,7 @@ use Rattle.kinds.specs.declared.event.Event.{Event}
 use Rattle.kinds.specs.Event.{Parsed}
 use Rattle.kinds.specs.Event.{WellFormed, Malformed}
 use Rattle.store.specs.Lists.{lentOf, stretch-length}
-use Rattle.log.specs.Log.{heard}
+use Rattle.log.specs.Log.{heard, featureIn}
 use Rattle.store.specs.RecordLaws.{put-length}
 use Rattle.writing.specs.declared.state.State.{State}
 use Rattle.asking.specs.declared.set_type.Typed.{Typed}
@@ -42,22 +42,22 @@ moved-length : (l : List ℕ) (start count : ℕ) → start + count ≤ length l
 moved-length l start count h = omega (arith, length-append (take count (drop start l)) (drop count l), stretch-length l start count h, length-drop count l)
 
 module _ (s : State) (k : Mem) where
-  pub event-lengths : (e : Event) → eventWith s (askOf (s .typing) e) e k .wrote .number ≡ 0 → SameLengths k (eventWith s (askOf (s .typing) e) e k .mem)
+  pub event-lengths : (n : ℕ) (e : Event) → eventWith s n (askOf (s .typing) e) e k .wrote .number ≡ 0 → SameLengths k (eventWith s n (askOf (s .typing) e) e k .mem)
   unfolding eventWith memAfter
-  event-lengths e q =
+  event-lengths n e q =
       let a : Ask = askOf (s .typing) e in
-      rw (took-event s a k q .is) (record {
+      rw (took-event s n a k q .is) (record {
         table = asked-table s (a .typed) (a .added) (a .part) (k .table);
-        pools = λ n. ap length (pool-by (poolAfter s a e (k .pools)) n) ∙ length-sets (poolIn (k .pools) n) (used (wordsIn (s .pending) n)) (gives s (a .added) e n);
+        pools = λ m. ap length (pool-by (poolAfter s a e (k .pools)) m) ∙ length-sets (poolIn (k .pools) m) (used (wordsIn (s .pending) m)) (gives s (a .added) e m);
       })
 
-  heard-lengths : (p : Parsed) → eventOf s k p .wrote .number ≡ 0 → SameLengths k (eventOf s k p .mem)
-  heard-lengths Malformed q = record { table = refl; pools = λ n. refl }
-  heard-lengths (WellFormed e) q = event-lengths e q
+  heard-lengths : (n : ℕ) (p : Parsed) → eventOf s k n p .wrote .number ≡ 0 → SameLengths k (eventOf s k n p .mem)
+  heard-lengths n Malformed q = record { table = refl; pools = λ m. refl }
+  heard-lengths n (WellFormed e) q = event-lengths n e q
 
   pub call-lengths : (c : Call) → called s k c .wrote .number ≡ 0 → SameLengths k (called s k c .mem)
   unfolding eventCall finishCall nextCall
-  call-lengths (eventC bytes) q = heard-lengths (heard bytes) q
+  call-lengths (eventC bytes) q = heard-lengths (featureIn bytes) (heard bytes) q
   call-lengths finishC q = rw (took-finish s k q .is) (record { table = put-length (k .table) 0 (rootOf s); pools = λ n. refl })
   call-lengths nextC q =
       let t = took-next s k q in

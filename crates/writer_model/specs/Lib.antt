@@ -16,6 +16,7 @@ pub mod NextStands
 pub mod Call
 pub mod Refused
 pub mod Properties
+pub mod Numbers
 pub mod Lengths
 pub mod Pairs
 pub mod Fits
@@ -23,5 +24,6 @@ pub mod Rows
 pub mod Tree
 pub mod Fed
 pub mod Feature
+pub mod AnyNumber
 pub mod BenchCalls
 pub mod Example

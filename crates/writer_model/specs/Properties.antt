@@ -5,7 +5,7 @@ use Prim.Native.Nat.{ℕ}
 use native.Mathlib.Omega.{arith}
 use Rattle.kinds.specs.Event.{Parsed}
 use Rattle.kinds.specs.Event.{WellFormed, Malformed}
-use Rattle.log.specs.Log.{heard}
+use Rattle.log.specs.Log.{heard, featureIn}
 use Rattle.asking.specs.declared.typing.Typing.{Typing}
 use Rattle.writing.specs.declared.state.State.{State}
 use Rattle.asking.specs.declared.set_type.Typed.{Typed}
@@ -22,21 +22,21 @@ propertiesAfter (eventC bytes) n = n
 propertiesAfter finishC n = n
 propertiesAfter nextC n = 0
 
-asked-properties : (s : State) (typed : Typed) (added : Added) (part : Bool) (h : Typing) → stateAfter s (ask typed added part) h .properties ≡ s .properties
+asked-properties : (s : State) (n : ℕ) (typed : Typed) (added : Added) (part : Bool) (h : Typing) → stateAfter s n (ask typed added part) h .properties ≡ s .properties
 unfolding stateAfter
-asked-properties s typed added true h = refl
-asked-properties s typed added false h = refl
+asked-properties s n typed added true h = refl
+asked-properties s n typed added false h = refl
 
-heard-properties : (s : State) (k : Mem) (p : Parsed) → eventOf s k p .wrote .number ≡ 0 → eventOf s k p .wrote .state .properties ≡ s .properties
+heard-properties : (s : State) (k : Mem) (n : ℕ) (p : Parsed) → eventOf s k n p .wrote .number ≡ 0 → eventOf s k n p .wrote .state .properties ≡ s .properties
 unfolding eventWith
-heard-properties s k Malformed q = absurd (omega arith)
-heard-properties s k (WellFormed e) q =
+heard-properties s k n Malformed q = absurd (omega arith)
+heard-properties s k n (WellFormed e) q =
     let a : Ask = askOf (s .typing) e in
-    let t = took-event s a k q in
-    rw (t .is) (asked-properties s (a .typed) (a .added) (a .part) (t .to))
+    let t = took-event s n a k q in
+    rw (t .is) (asked-properties s n (a .typed) (a .added) (a .part) (t .to))
 
 pub properties-after : (s : State) (k : Mem) (c : Call) → called s k c .wrote .number ≡ 0 → called s k c .wrote .state .properties ≡ propertiesAfter c (s .properties)
 unfolding eventCall finishCall finished nextCall renewed
-properties-after s k (eventC bytes) q = heard-properties s k (heard bytes) q
+properties-after s k (eventC bytes) q = heard-properties s k (featureIn bytes) (heard bytes) q
 properties-after s k finishC q = rw (took-finish s k q .is)
 properties-after s k nextC q = rw (took-next s k q .is)

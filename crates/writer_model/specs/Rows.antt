@@ -7,7 +7,7 @@ use native.Mathlib.Omega.{arith}
 use Rattle.kinds.specs.Lanes.{xyL}
 use Rattle.kinds.specs.Event.{Parsed}
 use Rattle.kinds.specs.Event.{WellFormed, Malformed}
-use Rattle.log.specs.Log.{heard}
+use Rattle.log.specs.Log.{heard, featureIn}
 use Rattle.asking.specs.declared.typing.Typing.{Typing}
 use Rattle.writing.specs.declared.state.State.{State}
 use Rattle.writing.specs.State.{Mem, withProperties}
@@ -36,26 +36,26 @@ pairsAfter s k nextC l = pendingAt (s .pending .xy) (k .pools .xy)
 
 -- ---- one accepted call
 module _ (s : State) (k : Mem) (w : Writer) (h : Stands s k w) where
-  heard-stands : (p : Parsed) → eventOf s k p .wrote .number ≡ 0 → Stands (eventOf s k p .wrote .state) (eventOf s k p .mem) (hears w p)
-  heard-stands Malformed q = absurd (omega arith)
-  heard-stands (WellFormed e) q = event-stands s k w e h q
+  heard-stands : (n : ℕ) (p : Parsed) → eventOf s k n p .wrote .number ≡ 0 → Stands (eventOf s k n p .wrote .state) (eventOf s k n p .mem) (hears w p)
+  heard-stands n Malformed q = absurd (omega arith)
+  heard-stands n (WellFormed e) q = event-stands s k w n e h q
 
   pub call-stands : (c : Call) → called s k c .wrote .number ≡ 0 → Stands (called s k c .wrote .state) (called s k c .mem) (afterCall w c)
   unfolding eventCall
-  call-stands (eventC bytes) q = heard-stands (heard bytes) q
+  call-stands (eventC bytes) q = heard-stands (featureIn bytes) (heard bytes) q
   call-stands finishC q = finish-stands s k w h q
   call-stands nextC q = next-stands s k w h q
 
-  heard-xy : (p : Parsed) → eventOf s k p .wrote .number ≡ 0 → allXy (hears w p) ≡ allXy w ++ pairIn p
+  heard-xy : (n : ℕ) (p : Parsed) → eventOf s k n p .wrote .number ≡ 0 → allXy (hears w p) ≡ allXy w ++ pairIn p
   unfolding eventWith
-  heard-xy Malformed q = absurd (omega arith)
-  heard-xy (WellFormed e) q =
-      let t = took-event s (askOf (s .typing) e) k q in
+  heard-xy n Malformed q = absurd (omega arith)
+  heard-xy n (WellFormed e) q =
+      let t = took-event s n (askOf (s .typing) e) k q in
       event-xy w e (t .to) (ap (λ (g : Typing). askOf g e .typed) (sym (h .typing)) ∙ t .typed)
 
   call-xy : (c : Call) (l : List ℕ) → called s k c .wrote .number ≡ 0 → allXy w ≡ l → allXy (afterCall w c) ≡ pairsAfter s k c l
   unfolding eventCall finishCall
-  call-xy (eventC bytes) l q e = heard-xy (heard bytes) q ∙ ap (λ (x : List ℕ). x ++ pairIn (heard bytes)) e
+  call-xy (eventC bytes) l q e = heard-xy (featureIn bytes) (heard bytes) q ∙ ap (λ (x : List ℕ). x ++ pairIn (heard bytes)) e
   call-xy finishC l q e = finish-xy w (no-root s k w h (took-finish s k q .going)) ∙ e
   call-xy nextC l q e = next-xy w ∙ sym (h .pending xyL .there)
 

@@ -19,10 +19,12 @@ use Rattle.asking.specs.declared.ask.Added.{Added}
 use Rattle.asking.specs.declared.ask.Ask.{Ask}
 use Rattle.pending.specs.Words.{wordsIn, used}
 use Rattle.writing.specs.State.{poolIn, Mem, wrote}
+use Rattle.writing.specs.Feature.{belongs}
 use Rattle.pending.specs.Growth.{more}
 use Rattle.asking.specs.Ask.{noWords}
 use Rattle.pending.specs.Room.{roomIn, laneRoom, hasRoom}
 use Rattle.writing.specs.Calls.{recordsFor, stateAfter, roomOr, decideTyped, decideEvent, finished, decideFinish, renewed, decideNext}
+use Rattle.writing.specs.Due.{Due, was-due, is-due, due-number}
 use Rattle.kinds.specs.LaneLaws.{lane-of-every}
 use Rattle.writer_model.specs.Lanes.{lent-by}
 
@@ -50,22 +52,23 @@ room-of p a records k h =
     lane e n = within (used (wordsIn p n) + more a n) (lentIn (lentOf (k .pools)) n) (usable n) (lane-of-every (laneRoom p (lentOf (k .pools)) a) e n)
 
 -- ---- an event
-pub record TookEvent (s : State) (a : Ask) (k : Mem) : Type 0 where
+pub record TookEvent (s : State) (n : ℕ) (a : Ask) (k : Mem) : Type 0 where
   pub to : Typing
   pub typed : a .typed ≡ Set to
   pub going : s .waiting ≡ false
+  pub own : belongs (s .feature) n ≡ true
   pub has : Room (s .pending) (a .added) (recordsFor s a) k
-  pub is : decideEvent s a (recordsLent (k .table)) (lentOf (k .pools)) ≡ wrote 0 (stateAfter s a to)
+  pub is : decideEvent s n a (recordsLent (k .table)) (lentOf (k .pools)) ≡ wrote 0 (stateAfter s n a to)
 
-pub took-event : (s : State) (a : Ask) (k : Mem) → decideEvent s a (recordsLent (k .table)) (lentOf (k .pools)) .number ≡ 0 → TookEvent s a k
+pub took-event : (s : State) (n : ℕ) (a : Ask) (k : Mem) → decideEvent s n a (recordsLent (k .table)) (lentOf (k .pools)) .number ≡ 0 → TookEvent s n a k
 unfolding decideEvent
-took-event s a k h = go (s .waiting) (a .typed) (room (s .pending) (a .added) (recordsFor s a) k) refl refl refl h
+took-event s n a k h = go (a .typed) (room (s .pending) (a .added) (recordsFor s a) k) refl refl (was-due s n _ h) (is-due s n _ h) (due-number s n _ h)
   where
-    go : (b : Bool) (o : Typed) (r : Bool) → s .waiting ≡ b → a .typed ≡ o → room (s .pending) (a .added) (recordsFor s a) k ≡ r → cond b (wrote 15 s) (decideTyped s a r o) .number ≡ 0 → TookEvent s a k
-    go true o r p q t h = absurd (omega arith)
-    go false Mixed r p q t h = absurd (omega arith)
-    go false (Set g) false p q t h = absurd (omega arith)
-    go false (Set g) true p q t h = record { to = g; typed = q; going = p; has = room-of (s .pending) (a .added) (recordsFor s a) k t; is = rw (t, p, q) }
+    go : (o : Typed) (r : Bool) → a .typed ≡ o → room (s .pending) (a .added) (recordsFor s a) k ≡ r → Due s n
+        → decideEvent s n a (recordsLent (k .table)) (lentOf (k .pools)) ≡ decideTyped s n a r o → decideTyped s n a r o .number ≡ 0 → TookEvent s n a k
+    go Mixed r q t due is h = absurd (omega arith)
+    go (Set g) false q t due is h = absurd (omega arith)
+    go (Set g) true q t due is h = record { to = g; typed = q; going = due .turn; own = due .own; has = room-of (s .pending) (a .added) (recordsFor s a) k t; is = is }
 
 -- ---- finish
 pub record TookFinish (s : State) (k : Mem) : Type 0 where

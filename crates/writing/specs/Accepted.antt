@@ -11,6 +11,7 @@ use Rattle.asking.specs.declared.set_type.Typed.the-variants.{Set, Mixed}
 use Rattle.asking.specs.declared.ask.Ask.{Ask}
 use Rattle.writing.specs.State.{recordsUsed, wrote}
 use Rattle.writing.specs.Calls.{recordsFor, roomOr, decideTyped, decideEvent, finished, renewed, decideFinish, decideNext}
+use Rattle.writing.specs.Due.{due-number}
 use Rattle.asking.specs.Ask.{noWords}
 use Rattle.pending.specs.Room.{Room, room-of}
 
@@ -22,19 +23,19 @@ has-waited : (s : State) (b : Bool) (r : Wrote) → cond b r (wrote 15 s) .numbe
 has-waited s true r h = h
 has-waited s false r h = absurd (omega arith)
 
-has-type : (s : State) (a : Ask) (room : Bool) (t : Typed) → decideTyped s a room t .number ≡ 0 → room ≡ true
-has-type s a room Mixed h = absurd (omega arith)
-has-type s a true (Set t) h = refl
-has-type s a false (Set t) h = absurd (omega arith)
+has-type : (s : State) (n : ℕ) (a : Ask) (room : Bool) (t : Typed) → decideTyped s n a room t .number ≡ 0 → room ≡ true
+has-type s n a room Mixed h = absurd (omega arith)
+has-type s n a true (Set t) h = refl
+has-type s n a false (Set t) h = absurd (omega arith)
 
 has-room : (s after : State) (room : Bool) → roomOr s room after .number ≡ 0 → room ≡ true
 has-room s after true h = refl
 has-room s after false h = absurd (omega arith)
 
 module _ (s : State) (records : ℕ) (pools : Lent) where
-  pub event-accepted : (a : Ask) → decideEvent s a records pools .number ≡ 0 → Room (s .pending) (a .added) (recordsFor s a) records pools
+  pub event-accepted : (n : ℕ) (a : Ask) → decideEvent s n a records pools .number ≡ 0 → Room (s .pending) (a .added) (recordsFor s a) records pools
   unfolding decideEvent
-  event-accepted a h = room-of _ _ _ _ _ (has-type s a _ (a .typed) (in-turn s (s .waiting) _ h))
+  event-accepted n a h = room-of _ _ _ _ _ (has-type s n a _ (a .typed) (due-number s n _ h))
 
   pub finish-accepted : decideFinish s records pools .number ≡ 0 → Room (s .pending) noWords (s .parts + 1) records pools
   unfolding decideFinish

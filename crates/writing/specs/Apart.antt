@@ -10,14 +10,15 @@ use Rattle.laws.specs.Every.{both}
 use Rattle.kinds.specs.Event.{Parsed, WellFormed, Malformed}
 use Rattle.kinds.specs.declared.geometry.Lent.{Lent}
 use Rattle.store.specs.Lists.{lentOf}
-use Rattle.log.specs.Log.{heard}
+use Rattle.log.specs.Log.{heard, featureIn}
 use Rattle.store.specs.Records.{recordsLent}
 use Rattle.asking.specs.declared.ask.Ask.{Ask}
 use Rattle.asking.specs.declared.set_type.Typed.{Typed}
 use Rattle.asking.specs.declared.set_type.Typed.the-variants.{Set, Mixed}
 use Rattle.writing.specs.declared.state.State.{State}
 use Rattle.pending.specs.Words.{used}
-use Rattle.writing.specs.State.{recordsUsed, Mem, wrote}
+use Rattle.writing.specs.State.{recordsUsed, Mem}
+use Rattle.writing.specs.Due.{was-due, due-number}
 use Rattle.asking.specs.Ask.{noWords, askOf}
 use Rattle.pending.specs.Room.{hasRoom, Room, room-of, has-room-of, room-before, and-true}
 use Rattle.writing.specs.Calls.{isReady, recordsFor, decideTyped, decideEvent, eventWith, eventOf, eventCall}
@@ -44,15 +45,14 @@ is-ready s records pools r = and-true (ap not (r .turn)) (has-room-of _ _ _ _ _ 
 -- an event that is accepted found the writer ready
 pub was-ready : (s : State) (k : Mem) (bytes : List ℕ) → eventCall s k bytes .wrote .number ≡ 0 → isReady s (recordsLent (k .table)) (lentOf (k .pools)) ≡ true
 unfolding eventCall eventWith decideEvent
-was-ready s k bytes = by-record (heard bytes)
+was-ready s k bytes = by-record (featureIn bytes) (heard bytes)
   where
-    by-case : (a : Ask) (waiting room : Bool) (t : Typed) → hasRoom (s .pending) (a .added) (recordsFor s a) (recordsLent (k .table)) (lentOf (k .pools)) ≡ room
-        → cond waiting (wrote 15 s) (decideTyped s a room t) .number ≡ 0 → (not waiting && hasRoom (s .pending) noWords (recordsUsed s) (recordsLent (k .table)) (lentOf (k .pools))) ≡ true
-    by-case a true room t has ok = absurd (omega (arith, ok))
-    by-case a false room Mixed has ok = absurd (omega (arith, ok))
-    by-case a false false (Set h) has ok = absurd (omega (arith, ok))
-    by-case a false true (Set h) has ok = room-before (s .pending) (a .added) (recordsUsed s) (recordsFor s a) _ _ (used-before s (a .part)) has
+    by-case : (n : ℕ) (a : Ask) (room : Bool) (t : Typed) → hasRoom (s .pending) (a .added) (recordsFor s a) (recordsLent (k .table)) (lentOf (k .pools)) ≡ room
+        → decideTyped s n a room t .number ≡ 0 → hasRoom (s .pending) noWords (recordsUsed s) (recordsLent (k .table)) (lentOf (k .pools)) ≡ true
+    by-case n a room Mixed has ok = absurd (omega (arith, ok))
+    by-case n a false (Set h) has ok = absurd (omega (arith, ok))
+    by-case n a true (Set h) has ok = room-before (s .pending) (a .added) (recordsUsed s) (recordsFor s a) _ _ (used-before s (a .part)) has
 
-    by-record : (p : Parsed) → eventOf s k p .wrote .number ≡ 0 → isReady s (recordsLent (k .table)) (lentOf (k .pools)) ≡ true
-    by-record Malformed ok = absurd (omega (arith, ok))
-    by-record (WellFormed e) ok = by-case (askOf (s .typing) e) (s .waiting) _ (askOf (s .typing) e .typed) refl ok
+    by-record : (n : ℕ) (p : Parsed) → eventOf s k n p .wrote .number ≡ 0 → isReady s (recordsLent (k .table)) (lentOf (k .pools)) ≡ true
+    by-record n Malformed ok = absurd (omega (arith, ok))
+    by-record n (WellFormed e) ok = and-true (ap not (was-due s n _ ok .turn)) (by-case n (askOf (s .typing) e) _ (askOf (s .typing) e .typed) refl (due-number s n _ ok))

@@ -8,7 +8,7 @@ use Rattle.kinds.specs.Lanes.{xyL, endsL, zL, mL, tL, tmL}
 use Rattle.kinds.specs.declared.event.Event.{Event}
 use Rattle.kinds.specs.declared.geometry.Lent.{Lent}
 use Rattle.store.specs.Lists.{lentOf}
-use Rattle.log.specs.Log.{heard}
+use Rattle.log.specs.Log.{heard, featureIn}
 use Rattle.store.specs.Records.{recordsLent, putRecord}
 use Rattle.writing.specs.declared.state.State.{State}
 use Rattle.writing.specs.declared.state.Wrote.{Wrote}
@@ -35,11 +35,11 @@ numbered e h = ap (λ (w : Wrote). w .number) (sym e) ∙ h
 -- ---- event
 pub malformed : (s : State) (k : Mem) (bytes : List ℕ) {p : Parsed} → p ≡ heard bytes → p ≡ Malformed → outcome (wrote 11 s) k ≡ eventCall s k bytes
 unfolding eventCall
-malformed s k bytes h e = ap (eventOf s k) (sym e ∙ h)
+malformed s k bytes h e = ap (eventOf s k (featureIn bytes)) (sym e ∙ h)
 
-pub well-formed : (s : State) (k : Mem) (e : Event) (bytes : List ℕ) {p : Parsed} {o : Outcome} → p ≡ heard bytes → p ≡ WellFormed e → o ≡ eventWith s (askOf (s .typing) e) e k → o ≡ eventCall s k bytes
+pub well-formed : (s : State) (k : Mem) (e : Event) (bytes : List ℕ) {p : Parsed} {o : Outcome} → p ≡ heard bytes → p ≡ WellFormed e → o ≡ eventWith s (featureIn bytes) (askOf (s .typing) e) e k → o ≡ eventCall s k bytes
 unfolding eventCall
-well-formed s k e bytes h f is = is ∙ ap (eventOf s k) (sym f ∙ h)
+well-formed s k e bytes h f is = is ∙ ap (eventOf s k (featureIn bytes)) (sym f ∙ h)
 
 -- ---- finish
 module _ (s : State) (k : Mem) {records : ℕ} {pools : Lent} {r : Wrote} (lends : records ≡ recordsLent (k .table)) (words : pools ≡ lentOf (k .pools)) (decides : r ≡ decideFinish s records pools) where

@@ -1,5 +1,7 @@
+pub mod Feature
 pub mod State
 pub mod Calls
+pub mod Due
 pub mod Accepted
 pub mod Ready
 pub mod Apart

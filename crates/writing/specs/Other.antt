@@ -25,7 +25,9 @@ use Rattle.pending.specs.Words.{used}
 use Rattle.writing.specs.State.{recordsUsed, wrote}
 use Rattle.asking.specs.Ask.{noWords, endIf, ask, OnlyEnds}
 use Rattle.pending.specs.Room.{roomIn, hasRoom, Fits, room-in, and-true, room-tested, room-apart}
-use Rattle.writing.specs.Calls.{isReady, recordsFor, stateAfter, decideTyped, decideEvent}
+use Rattle.writing.specs.Calls.{isReady, recordsFor, stateAfter, decideTyped, ifDue, decideEvent}
+use Rattle.writing.specs.Feature.{belongs}
+use Rattle.writing.specs.Due.{out-of-turn, of-another, when-due, due-number}
 use Rattle.writing.specs.Apart.{used-before}
 
 -- room for what a begin or an end adds: a part's record, and an end
@@ -33,8 +35,8 @@ abbrev pub otherRoom : State → Ask → ℕ → ℕ → Bool
 otherRoom s a records ends = roomIn (recordsFor s a) records 4096 && roomIn (used (s .pending .ends) + cond (a .added .ends) 1 0) ends 65536
 
 -- the answer to a begin or an end, where it is known whether the writer is ready
-unfoldable pub decideOther : State → Ask → Bool → ℕ → ℕ → Wrote
-decideOther s a ready records ends = cond (s .waiting) (wrote 15 s) (decideTyped s a (ready && otherRoom s a records ends) (a .typed))
+unfoldable pub decideOther : State → ℕ → Ask → Bool → ℕ → ℕ → Wrote
+decideOther s n a ready records ends = ifDue s n (decideTyped s n a (ready && otherRoom s a records ends) (a .typed))
 
 -- ---- its kind is below 64, where pairs begin
 pub other-below : {bytes : List ℕ} (e : Event) → HeardOther bytes e → e .kind < 64
@@ -64,35 +66,39 @@ module _ (s : State) (a : Ask) (records ends : ℕ) (room : otherRoom s a record
   pub other-fits : OnlyEnds a → Fits (s .pending) noWords → Fits (s .pending) (a .added)
   other-fits only fits = subst (λ (added : Added). Fits (s .pending) added) (sym only) (λ n. elim n [ xyL ↦ fits xyL | endsL ↦ room-in _ _ _ (tests .1) .1 | zL ↦ fits zL | mL ↦ fits mL | tL ↦ fits tL | tmL ↦ fits tmL ])
 
--- ---- its answer: out of its turn, types mixed, done, no room
-pub other-waits : (s : State) (a : Ask) (ready : Bool) (records ends : ℕ) → s .waiting ≡ true → wrote 15 s ≡ decideOther s a ready records ends
-unfolding decideOther
-other-waits s a ready records ends waits = if-so _ waits refl
-
-module _ (s : State) (a : Ask) (ready : Bool) (records ends : ℕ) (turn : s .waiting ≡ false) where
-  by-typed : {r : Wrote} (t : Typed) → a .typed ≡ t → r ≡ decideTyped s a (ready && otherRoom s a records ends) t → r ≡ decideOther s a ready records ends
+-- ---- its answer: out of its turn, of another feature, types mixed, done, no room
+module _ (s : State) (n : ℕ) (a : Ask) (ready : Bool) (records ends : ℕ) where
+  pub other-waits : s .waiting ≡ true → wrote 15 s ≡ decideOther s n a ready records ends
   unfolding decideOther
-  by-typed t e h = if-not _ turn (h ∙ ap (decideTyped s a (ready && otherRoom s a records ends)) (sym e))
+  other-waits waits = out-of-turn s n _ waits
 
-  pub other-mixed : a .typed ≡ Mixed → wrote 5 s ≡ decideOther s a ready records ends
-  other-mixed e = by-typed Mixed e refl
+  pub other-differs : s .waiting ≡ false → belongs (s .feature) n ≡ false → wrote 17 s ≡ decideOther s n a ready records ends
+  unfolding decideOther
+  other-differs turn differs = of-another s n _ turn differs
 
-  pub other-done : {after : State} (h : Typing) → a .typed ≡ Set h → (ready && otherRoom s a records ends) ≡ true → after ≡ stateAfter s a h → wrote 0 after ≡ decideOther s a ready records ends
-  other-done h e room is = by-typed (Set h) e (if-so _ room (ap (wrote 0) is))
+  module _ (turn : s .waiting ≡ false) (own : belongs (s .feature) n ≡ true) where
+    by-typed : {r : Wrote} (t : Typed) → a .typed ≡ t → r ≡ decideTyped s n a (ready && otherRoom s a records ends) t → r ≡ decideOther s n a ready records ends
+    unfolding decideOther
+    by-typed t e h = h ∙ ap (decideTyped s n a (ready && otherRoom s a records ends)) (sym e) ∙ when-due s n _ (record { turn = turn; own = own })
 
-  pub other-full : (h : Typing) → a .typed ≡ Set h → (ready && otherRoom s a records ends) ≡ false → wrote 12 s ≡ decideOther s a ready records ends
-  other-full h e full = by-typed (Set h) e (if-not _ full refl)
+    pub other-mixed : a .typed ≡ Mixed → wrote 5 s ≡ decideOther s n a ready records ends
+    other-mixed e = by-typed Mixed e refl
+
+    pub other-done : {after : State} (h : Typing) → a .typed ≡ Set h → (ready && otherRoom s a records ends) ≡ true → after ≡ stateAfter s n a h → wrote 0 after ≡ decideOther s n a ready records ends
+    other-done h e room is = by-typed (Set h) e (if-so _ room (ap (wrote 0) is))
+
+    pub other-full : (h : Typing) → a .typed ≡ Set h → (ready && otherRoom s a records ends) ≡ false → wrote 12 s ≡ decideOther s n a ready records ends
+    other-full h e full = by-typed (Set h) e (if-not _ full refl)
 
 -- where a begin or an end is accepted, the writer was ready and there was room
-pub other-accepted : (s : State) (a : Ask) (ready : Bool) (records ends : ℕ) → decideOther s a ready records ends .number ≡ 0 → (ready ≡ true) × (otherRoom s a records ends ≡ true)
+pub other-accepted : (s : State) (n : ℕ) (a : Ask) (ready : Bool) (records ends : ℕ) → decideOther s n a ready records ends .number ≡ 0 → (ready ≡ true) × (otherRoom s a records ends ≡ true)
 unfolding decideOther
-other-accepted s a ready records ends ok = by-case (s .waiting) (ready && otherRoom s a records ends) (a .typed) refl ok
+other-accepted s n a ready records ends ok = by-case (ready && otherRoom s a records ends) (a .typed) refl (due-number s n _ ok)
   where
-    by-case : (waiting room : Bool) (t : Typed) → (ready && otherRoom s a records ends) ≡ room → cond waiting (wrote 15 s) (decideTyped s a room t) .number ≡ 0 → (ready ≡ true) × (otherRoom s a records ends ≡ true)
-    by-case true room t is ok = absurd (omega (arith, ok))
-    by-case false room Mixed is ok = absurd (omega (arith, ok))
-    by-case false false (Set h) is ok = absurd (omega (arith, ok))
-    by-case false true (Set h) is ok = both ready (otherRoom s a records ends) is
+    by-case : (room : Bool) (t : Typed) → (ready && otherRoom s a records ends) ≡ room → decideTyped s n a room t .number ≡ 0 → (ready ≡ true) × (otherRoom s a records ends ≡ true)
+    by-case room Mixed is ok = absurd (omega (arith, ok))
+    by-case false (Set h) is ok = absurd (omega (arith, ok))
+    by-case true (Set h) is ok = both ready (otherRoom s a records ends) is
 
 -- ---- the test of room is that of readiness and its own
 module _ (s : State) (typed : Typed) (end part : Bool) (records : ℕ) (pools : Lent) where
@@ -112,14 +118,17 @@ module _ (s : State) (typed : Typed) (end part : Bool) (records : ℕ) (pools : 
         fits = λ n. elim n [ xyL ↦ r .fits xyL | endsL ↦ ends .1 | zL ↦ r .fits zL | mL ↦ r .fits mL | tL ↦ r .fits tL | tmL ↦ r .fits tmL ];
       })
 
-  pub other-decides : (ready : Bool) → isReady s records pools ≡ ready → decideOther s (ask typed (endIf end) part) ready records (pools .ends) ≡ decideEvent s (ask typed (endIf end) part) records pools
-  unfolding decideOther decideEvent
-  other-decides ready tells = by-turn (s .waiting) tells
+  pub other-decides : (n : ℕ) (ready : Bool) → isReady s records pools ≡ ready → decideOther s n (ask typed (endIf end) part) ready records (pools .ends) ≡ decideEvent s n (ask typed (endIf end) part) records pools
+  unfolding decideOther decideEvent ifDue
+  other-decides n ready tells = by-turn (s .waiting) tells
     where
+      own : Bool
+      own = belongs (s .feature) n
+
       by-turn : (waiting : Bool) → (not waiting && hasRoom (s .pending) noWords (recordsUsed s) records pools) ≡ ready
-          → cond waiting (wrote 15 s) (decideTyped s (ask typed (endIf end) part) (ready && otherRoom s (ask typed (endIf end) part) records (pools .ends)) typed)
-          ≡ cond waiting (wrote 15 s) (decideTyped s (ask typed (endIf end) part) (hasRoom (s .pending) (endIf end) (cond part (s .parts + 2) (recordsUsed s)) records pools) typed)
+          → cond waiting (wrote 15 s) (cond own (decideTyped s n (ask typed (endIf end) part) (ready && otherRoom s (ask typed (endIf end) part) records (pools .ends)) typed) (wrote 17 s))
+          ≡ cond waiting (wrote 15 s) (cond own (decideTyped s n (ask typed (endIf end) part) (hasRoom (s .pending) (endIf end) (cond part (s .parts + 2) (recordsUsed s)) records pools) typed) (wrote 17 s))
       by-turn true tells = refl
       by-turn false tells =
-          ap (λ (room : Bool). decideTyped s (ask typed (endIf end) part) room typed)
+          ap (λ (room : Bool). cond own (decideTyped s n (ask typed (endIf end) part) room typed) (wrote 17 s))
           (ap (λ (ready : Bool). ready && otherRoom s (ask typed (endIf end) part) records (pools .ends)) (sym tells) ∙ sym room-is)

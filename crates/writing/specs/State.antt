@@ -7,6 +7,8 @@ use Rattle.kinds.specs.Lanes.{Lane, xyL, endsL, zL, mL, tL, tmL}
 use Rattle.store.specs.Lists.{Pools, poolsOf}
 use Rattle.asking.specs.declared.typing.Typing.{Typing}
 use Rattle.pending.specs.declared.words.Pending.{Pending}
+use Rattle.writing.specs.declared.feature.Feature.{Feature}
+use Rattle.writing.specs.declared.feature.Feature.the-variants.{Open}
 use Rattle.writing.specs.declared.state.State.{State}
 use Rattle.writing.specs.declared.state.Wrote.{Wrote}
 use Rattle.asking.specs.SetType.{typing}
@@ -14,22 +16,25 @@ use Rattle.pending.specs.Words.{words, pendingOf}
 
 -- ---- a writer that nothing was given; every other state is one that a call changed, field by field
 abbrev pub fresh : State
-fresh = record { typing = typing 0 false false 0 0; waiting = false; parts = 0; properties = 0; pending = pendingOf (λ n. words 0 0) }
+fresh = record { typing = typing 0 false false 0 0; waiting = false; parts = 0; properties = 0; feature = Open; pending = pendingOf (λ n. words 0 0) }
 
 abbrev pub withTyping : State → Typing → State
-withTyping s h = record { typing = h; waiting = s .waiting; parts = s .parts; properties = s .properties; pending = s .pending }
+withTyping s h = record { typing = h; waiting = s .waiting; parts = s .parts; properties = s .properties; feature = s .feature; pending = s .pending }
 
 abbrev pub withWaiting : State → Bool → State
-withWaiting s waiting = record { typing = s .typing; waiting = waiting; parts = s .parts; properties = s .properties; pending = s .pending }
+withWaiting s waiting = record { typing = s .typing; waiting = waiting; parts = s .parts; properties = s .properties; feature = s .feature; pending = s .pending }
 
 abbrev pub withParts : State → ℕ → State
-withParts s parts = record { typing = s .typing; waiting = s .waiting; parts = parts; properties = s .properties; pending = s .pending }
+withParts s parts = record { typing = s .typing; waiting = s .waiting; parts = parts; properties = s .properties; feature = s .feature; pending = s .pending }
 
 abbrev pub withProperties : State → ℕ → State
-withProperties s properties = record { typing = s .typing; waiting = s .waiting; parts = s .parts; properties = properties; pending = s .pending }
+withProperties s properties = record { typing = s .typing; waiting = s .waiting; parts = s .parts; properties = properties; feature = s .feature; pending = s .pending }
+
+abbrev pub withFeature : State → Feature → State
+withFeature s feature = record { typing = s .typing; waiting = s .waiting; parts = s .parts; properties = s .properties; feature = feature; pending = s .pending }
 
 abbrev pub withPending : State → Pending → State
-withPending s pending = record { typing = s .typing; waiting = s .waiting; parts = s .parts; properties = s .properties; pending = pending }
+withPending s pending = record { typing = s .typing; waiting = s .waiting; parts = s .parts; properties = s .properties; feature = s .feature; pending = pending }
 
 -- a state uses records 1 to n for its parts, and record 0 once a finished feature waits; with no part and nothing finished, no record
 abbrev pub recordsUsed : State → ℕ

@@ -1,4 +1,6 @@
 // What a call answers, and the state after it, from the state and what is lent: no memory is touched.
+use crate::feature::Feature;
+use crate::feature::belongs;
 use crate::ready::other_room;
 use crate::state::State;
 use crate::state::Wrote;
@@ -22,14 +24,14 @@ ghost use Rattle.writing.specs.Calls.{stateAfter, finished, decideFinish
 ghost use Rattle.pending.specs.Room.{Fits};
 ghost use Rattle.writing.specs.Other.{decideOther};
 
-fn state_after(s: State, a: Ask, typing: Typing) -> State
+fn state_after(s: State, n: u32, a: Ask, typing: Typing) -> State
     requires fits { ⌜ Fits (s .pending) (a .added) ⌝ }
     requires records { ⌜ (a .part ≡ true → s .parts + 2 ≤ 4096) ⌝ }
-    ensures { λ r. ⌜ r ≡ stateAfter s a typing ⌝ }
+    ensures { λ r. ⌜ r ≡ stateAfter s n a typing ⌝ }
 {
     let added = a.added;
     let pending = grown_all(s.pending, added);
-    let mut after = s;
+    let mut after = s.with_feature(Feature::Numbered(n));
     after.typing = typing;
     if a.part {
         let rest = past_all(pending);
@@ -41,15 +43,23 @@ fn state_after(s: State, a: Ask, typing: Typing) -> State
     after
 }
 
-// A begin or an end, where it is known whether the writer is ready. It asks for room for a part's record and for an end.
-pub fn decide_other(s: State, a: Ask, ready: bool, records: usize, ends: usize) -> Wrote
+// A begin or an end of a feature's number, where it is known whether the writer is ready. It asks for room for a part's record and
+// for an end.
+pub fn decide_other(s: State, n: u32, a: Ask, ready: bool, records: usize, ends: usize) -> Wrote
     requires fits { ⌜ (ready ≡ true → Fits (s .pending) noWords) ⌝ }
     requires ends { ⌜ OnlyEnds a ⌝ }
-    ensures { λ r. ⌜ r ≡ decideOther s a ready records ends ⌝ }
+    ensures { λ r. ⌜ r ≡ decideOther s n a ready records ends ⌝ }
 {
     if s.waiting {
         return Wrote {
             number: refusal::NOT_ITS_TURN,
+            state: s,
+        };
+    }
+    let feature = s.feature;
+    if !belongs(feature, n) {
+        return Wrote {
+            number: refusal::OTHER_FEATURE,
             state: s,
         };
     }
@@ -61,7 +71,7 @@ pub fn decide_other(s: State, a: Ask, ready: bool, records: usize, ends: usize) 
         },
         Typed::Set(typing) => {
             if ready & other_room(s, a, records, ends) {
-                let state = state_after(s, a, typing);
+                let state = state_after(s, n, a, typing);
                 Wrote {
                     number: refusal::DONE,
                     state,
@@ -137,6 +147,7 @@ fn renewed(s: State) -> State
         waiting: false,
         parts: 0,
         properties: 0,
+        feature: Feature::Open,
         pending,
     }
 }

@@ -38,12 +38,13 @@ pub enum What {
     Next,
 }
 
-/// A tree to read. `cut` picks the shorter log that it is read into too.
+/// A tree to read, and the feature's number to read it under. `cut` picks the shorter log that it is read into too.
 #[derive(Clone, Debug, PartialEq, Eq)]
 pub struct Tree {
     pub store: Store,
     pub declared: u8,
     pub flags: u8,
+    pub feature: u32,
     pub cut: u32,
 }
 
@@ -81,7 +82,7 @@ pub fn to_line(input: &Input) -> String {
         }
         Input::Tree(tree) => {
             line.word("tree");
-            for number in [tree.declared.into(), tree.flags.into(), tree.cut] {
+            for number in [tree.declared.into(), tree.flags.into(), tree.feature, tree.cut] {
                 line.number(number.into());
             }
             line.bytes(&tree.store.table);
@@ -157,6 +158,7 @@ pub fn from_line(line: &str) -> Option<Input> {
         "tree" => Input::Tree(Tree {
             declared: words.number()?,
             flags: words.number()?,
+            feature: words.number()?,
             cut: words.number()?,
             store: Store { table: words.bytes()?, pools: words.pools()? },
         }),

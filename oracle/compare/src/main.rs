@@ -69,7 +69,7 @@ impl Run {
         runs::compare(row, &mut self.tally)?;
         for (i, feature) in finished.into_iter().enumerate() {
             readings::compare_kept_box(&feature, &mut self.tally)?;
-            let tree = Tree { store: feature.tree, declared: row.declared, flags: 0, cut: i as u32 };
+            let tree = Tree { store: feature.tree, declared: row.declared, flags: 0, feature: feature.number, cut: i as u32 };
             readings::compare_tree(&tree, &mut self.tally)?;
         }
         Ok(())
@@ -130,6 +130,7 @@ fn main() -> ExitCode {
     let replayed = run.replay(&options.kept);
     println!("seed {}; kept inputs replayed {replayed}", options.seed);
     make::odd::each(&mut |input| run.compare(&input));
+    make::numbers::each(&mut |input| run.compare(&input));
     make::limits::each(&mut |input| run.compare(&input));
     println!("at the limits: done after {:.0?}", began.elapsed());
     make::shared::each(&mut |input| run.compare(&input));

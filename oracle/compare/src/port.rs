@@ -120,9 +120,9 @@ pub fn next(state: &mut Words, memory: &mut Memory, lent: Lengths) -> u8 {
 }
 
 /// The number, and how many records the log has then.
-pub fn read(memory: &Memory, declared: u8, flags: u8, log: &mut [u8]) -> (u8, u32) {
+pub fn read(memory: &Memory, declared: u8, flags: u8, feature: u32, log: &mut [u8]) -> (u8, u32) {
     let mut count = 0xC0DE_C0DE;
-    let number = bare::read(memory.tree(), declared, flags, log, &mut count);
+    let number = bare::read(memory.tree(), declared, flags, feature, log, &mut count);
     (number, count)
 }
 

@@ -1,23 +1,26 @@
 //! Trees and property bytes read by both sides, into logs with room enough, with just too little, and with some between; and boxes.
-//! `original::reading` says what there is the Rust's and what SPEC's, `boxes` what a box is held to.
+//! `original::reading` says what there is the Rust's and what SPEC's, `boxes` what a box is held to. A feature's number is none of the
+//! Rust's: of its records all other bytes are compared, and in their place stands the number that was asked for.
 use crate::boxes::Boxes;
 use crate::input::{Properties, Tree};
 use crate::port::{self, Memory};
 use crate::rows::Finished;
 use crate::tally::{Asked, Tally};
 use original::answer::{DONE, LOG_FULL};
+use original::events::put_feature;
 use original::reading;
 
 const UNTOUCHED: u8 = 0xA5;
 
 pub fn compare_tree(tree: &Tree, tally: &mut Tally) -> Result<(), String> {
-    let expected = reading::read(&tree.store, tree.declared, tree.flags);
+    let mut expected = reading::read(&tree.store, tree.declared, tree.flags);
+    put_feature(&mut expected.events, tree.feature);
     let given = Memory::of(&tree.store);
     let memory = given.clone();
     for length in log_lengths(expected.events.len(), 64, tree.cut) {
         let (number, events) = expected.cut((length / 64).min(reading::MOST_EVENTS));
         let mut log = vec![UNTOUCHED; length];
-        let (answered, count) = port::read(&memory, tree.declared, tree.flags, &mut log);
+        let (answered, count) = port::read(&memory, tree.declared, tree.flags, tree.feature, &mut log);
         if (answered, count as usize) != (number, events.len() / 64) {
             let words = &expected.words;
             return Err(format!(
@@ -27,6 +30,7 @@ pub fn compare_tree(tree: &Tree, tally: &mut Tally) -> Result<(), String> {
         }
         check_log("read", &log, events)?;
         tally.answered(Asked::Read, number);
+        tally.read_under(tree.feature);
         tally.reads += 1;
     }
     tally.read(if tree.declared == 0 { tree.store.table.first().copied().unwrap_or_default() } else { tree.declared });

@@ -2,16 +2,17 @@
 //!
 //! The Rust's: whether types mix (5), the state after a call, every word and property byte laid down, every finished tree, and the
 //! box that its writer keeps, where a finished tree's must be the same (`kept_box`).
-//! SPEC's, by the small model here: 11, 15, 16, 6 and 12, where a part's lists stand before the tree is finished (the finished
-//! tree is then compared with the Rust's), where the pending lists begin, and that all else stays as it was.
+//! SPEC's, by the small model here: 11, 15, 17, 16, 6 and 12, the feature's number that is held, where a part's lists stand before the
+//! tree is finished (the finished tree is then compared with the Rust's), where the pending lists begin, and that all else stays as
+//! it was.
 use crate::boxes::Edges;
 use crate::input::{Call, Row, What};
 use crate::kept_box::KeptBox;
 use crate::port::{self, Lengths, Memory, Words, PROPERTIES, TABLE};
 use crate::tally::{Asked, Tally};
 use bintolage::usable::STATE_WORDS;
-use original::answer::{COLUMN_TOO_LARGE, DONE, MALFORMED, NOT_ITS_TURN, NO_ROOM};
-use original::events::is_malformed;
+use original::answer::{COLUMN_TOO_LARGE, DONE, MALFORMED, NOT_ITS_TURN, NO_ROOM, OTHER_FEATURE, TYPES_MIXED};
+use original::events::{feature_of, is_malformed};
 use original::feature_writer::peek::State;
 use original::properties::value;
 use original::tree::{put_list, Store, ENDS, MOST_RECORDS, MOST_WORDS};
@@ -21,8 +22,9 @@ const MOST_PROPERTY_BYTES: usize = 65536;
 pub const COLLECTION: u8 = 1;
 const FORCE_MULTI: u8 = 2;
 
-/// A feature's tree, and the box that the Rust keeps of it where the root's must be the same.
+/// A feature's number (0 where none was held), its tree, and the box that the Rust keeps of it where the root's must be the same.
 pub struct Finished {
+    pub number: u32,
     pub tree: Store,
     pub kept_box: Option<Edges>,
 }
@@ -51,6 +53,8 @@ struct Session<'r> {
     start: [usize; 6],
     /// The parts and property bytes of a finished feature that waits.
     waiting: Option<(usize, usize)>,
+    /// The number of the first event that was taken since start or next.
+    held: Option<u32>,
     noise: u64,
     kept_box: KeptBox,
     finished: Vec<Finished>,
@@ -90,6 +94,7 @@ impl<'r> Session<'r> {
             memory,
             start: [0; 6],
             waiting: None,
+            held: None,
             noise: 0x9E37_79B9_7F4A_7C15,
             kept_box: KeptBox::default(),
             finished: vec![],
@@ -107,8 +112,8 @@ impl<'r> Session<'r> {
                 let mut numbers = (DONE, DONE);
                 for _ in 0..*times {
                     let before = self.rust.state().mode;
-                    numbers =
-                        (self.expect_event(&call.what, bytes, lent), port::event(&mut self.words, bytes, &mut self.memory, lent));
+                    let expected = self.expect_event(&call.what, bytes, lent, tally);
+                    numbers = (expected, port::event(&mut self.words, bytes, &mut self.memory, lent));
                     tally.mode_changed(before, self.rust.state().mode);
                     if numbers.0 != numbers.1 {
                         break;
@@ -126,6 +131,9 @@ impl<'r> Session<'r> {
             }
             What::Finish => {
                 let expected = self.expect_finish(&call.what, lent)?;
+                if expected == DONE {
+                    tally.written_under(self.held);
+                }
                 (Asked::Finish, expected, port::finish(&mut self.words, &mut self.memory, lent))
             }
             What::Next => {
@@ -154,11 +162,13 @@ impl<'r> Session<'r> {
     fn expected_words(&self) -> Words {
         let state = self.rust.state();
         let (parts, properties) = self.waiting.unwrap_or((state.parts, state.properties));
-        let bits = u8::from(self.row.detect) | u8::from(self.row.promote) << 1 | u8::from(self.waiting.is_some()) << 2;
+        let marks = [self.row.detect, self.row.promote, self.waiting.is_some(), self.held.is_some()];
+        let bits = marks.into_iter().enumerate().map(|(i, mark)| u8::from(mark) << i).sum();
         let mut words = [0; STATE_WORDS];
         words[0] = u32::from_le_bytes([state.declared, state.current, state.mode, bits]);
         words[1] = parts as u32;
         words[2] = properties as u32;
+        words[3] = self.held.unwrap_or(0);
         for pool in 0..6 {
             words[4 + 2 * pool] = self.start[pool] as u32;
             words[5 + 2 * pool] = state.pending[pool] as u32;
@@ -193,27 +203,56 @@ impl<'r> Session<'r> {
         records <= (lent[TABLE] / 64).min(MOST_RECORDS) && (0..6).all(fits)
     }
 
-    fn expect_event(&mut self, what: &'r What, event: &[u8], lent: Lengths) -> u8 {
-        if is_malformed(event) {
-            return MALFORMED;
-        }
-        if self.waiting.is_some() {
-            return NOT_ITS_TURN;
+    fn expect_event(&mut self, what: &'r What, event: &[u8], lent: Lengths, tally: &mut Tally) -> u8 {
+        let is_other = event.len() == 64 && self.held.is_some_and(|held| held != feature_of(event));
+        let first = if is_malformed(event) { Some(MALFORMED) } else { self.waiting.and(Some(NOT_ITS_TURN)) };
+        if let Some(number) = first {
+            if is_other {
+                tally.came_before(number, OTHER_FEATURE);
+            }
+            return number;
         }
         let before = self.rust.state();
         let adds = additions(event, before.mode);
         let records = if adds.part { before.parts + 2 } else { self.used()[TABLE] };
-        if !self.has_room(lent, records, adds.words) {
-            let asked = if event[0] < 32 { self.twin().event(event) } else { DONE };
+        let has_room = self.has_room(lent, records, adds.words);
+        if is_other {
+            self.tally_other(event, has_room, tally);
+            return OTHER_FEATURE;
+        }
+        if !has_room {
+            let asked = self.asked_of_twin(event);
             return if asked == DONE { NO_ROOM } else { asked };
         }
         let number = self.rust.event(event);
         if number == DONE {
+            self.held = Some(feature_of(event));
             self.given.push(what);
             self.kept_box.take(event, before.mode, self.rust.state().mode);
             self.lay_words(&before, &adds);
         }
         number
+    }
+
+    /// What an event of another feature covers: its kind, and what else was due.
+    fn tally_other(&self, event: &[u8], has_room: bool, tally: &mut Tally) {
+        tally.other_feature(event[0]);
+        if !has_room {
+            tally.came_before(OTHER_FEATURE, NO_ROOM);
+        }
+        // A twin takes long, so it is asked until one is found.
+        if !tally.has_come_before(OTHER_FEATURE, TYPES_MIXED) && self.asked_of_twin(event) == TYPES_MIXED {
+            tally.came_before(OTHER_FEATURE, TYPES_MIXED);
+        }
+    }
+
+    /// Whether the types mix, without giving the Rust the event. Only a begin can mix them.
+    fn asked_of_twin(&self, event: &[u8]) -> u8 {
+        if event[0] < 32 {
+            self.twin().event(event)
+        } else {
+            DONE
+        }
     }
 
     /// A writer that was given the same.
@@ -320,7 +359,7 @@ impl<'r> Session<'r> {
             return Err("the Rust's finished feature has other property bytes".into());
         }
         let kept_box = self.kept_box.beside(&feature.tree, self.rust.bounds())?;
-        self.finished.push(Finished { tree: feature.tree, kept_box });
+        self.finished.push(Finished { number: self.held.unwrap_or(0), tree: feature.tree, kept_box });
         Ok(DONE)
     }
 
@@ -330,6 +369,7 @@ impl<'r> Session<'r> {
             return NO_ROOM;
         }
         self.waiting = None;
+        self.held = None;
         for (pool, count) in self.rust.state().pending.into_iter().enumerate() {
             self.expected.move_to_front(pool, self.start[pool]..self.start[pool] + count);
             self.start[pool] = 0;

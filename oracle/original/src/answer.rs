@@ -4,6 +4,7 @@ use std::cell::RefCell;
 use std::panic::{catch_unwind, set_hook, AssertUnwindSafe};
 
 pub const DONE: u8 = 0;
+pub const TYPES_MIXED: u8 = 5;
 pub const TEXT_NOT_UTF8: u8 = 6;
 pub const PAST_LIST: u8 = 7;
 pub const BAD_END: u8 = 8;
@@ -15,6 +16,7 @@ pub const TOO_DEEP: u8 = 13;
 pub const VALUE_CUT: u8 = 14;
 pub const NOT_ITS_TURN: u8 = 15;
 pub const COLUMN_TOO_LARGE: u8 = 16;
+pub const OTHER_FEATURE: u8 = 17;
 /// No number of SPEC 5.1: an error or a panic that it does not know.
 pub const UNKNOWN: u8 = 255;
 
@@ -25,7 +27,7 @@ pub fn number(error: &GeozeroError) -> u8 {
         GeozeroError::GeometryFormat => 2,
         GeozeroError::Geometry(words) if words.starts_with("Unknown geometry type") => 3,
         GeozeroError::Geometry(words) if words.starts_with("Unexpected geometry type in curve") => 4,
-        GeozeroError::Geometry(words) if words.starts_with("Cannot mix geometry types") => 5,
+        GeozeroError::Geometry(words) if words.starts_with("Cannot mix geometry types") => TYPES_MIXED,
         GeozeroError::Property(words) if words == "Invalid UTF-8 encoding" => TEXT_NOT_UTF8,
         GeozeroError::LogFull => LOG_FULL,
         _ => UNKNOWN,

@@ -1,4 +1,6 @@
 //! Event records (SPEC 3.2): given to a processor, and written by one.
+//!
+//! The crate knows no feature's number. Bytes 12 to 15 of a record are not given to it, and the records that it writes have 0 there.
 use geozero::error::{GeozeroError, Result};
 use geozero::{CoordDimensions, GeomProcessor};
 
@@ -8,6 +10,18 @@ pub fn u32_at(bytes: &[u8], at: usize) -> u32 {
 
 pub fn u64_at(bytes: &[u8], at: usize) -> u64 {
     u64::from_le_bytes(bytes[at..at + 8].try_into().unwrap())
+}
+
+/// The number of the feature that a record is of.
+pub fn feature_of(event: &[u8]) -> u32 {
+    u32_at(event, 12)
+}
+
+/// Puts a feature's number into each of the records.
+pub fn put_feature(events: &mut [u8], feature: u32) {
+    for event in events.chunks_exact_mut(64) {
+        event[12..16].copy_from_slice(&feature.to_le_bytes());
+    }
 }
 
 const XY: u8 = 64;
@@ -25,9 +39,8 @@ pub fn is_malformed(event: &[u8]) -> bool {
     let tagged_used = kind < 64 && matches!(kind % 32, 2 | 3 | 17);
     let size_used = kind < 32 && kind != 1;
     let present = event[2];
-    let spare_set = event[3] != 0 || event[12..16] != [0; 4];
     let value_set = |at: usize| event[at..at + 8] != [0; 8];
-    spare_set
+    event[3] != 0
         || event[1] > tagged_used as u8
         || (!size_used && u32_at(event, 4) != 0)
         || (kind < 64 && (value_set(16) || value_set(24)))
@@ -38,7 +51,7 @@ pub fn is_malformed(event: &[u8]) -> bool {
 /// A begin's size only reserves room in the crate (SPEC 1.2 leaves that out); it is cut, since a huge one ends the process.
 const MOST_RESERVED: usize = 1 << 10;
 
-/// Gives a well-formed event to a processor.
+/// Gives a well-formed event to a processor: all that its record says but the feature's number.
 pub fn give<P: GeomProcessor>(to: &mut P, event: &[u8]) -> Result<()> {
     let tagged = event[1] == 1;
     let size = (u32_at(event, 4) as usize).min(MOST_RESERVED);

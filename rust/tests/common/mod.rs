@@ -2,6 +2,9 @@
 #![allow(dead_code)] // each test file uses a part of it
 use bintolage::{event, geometry_type, Event, Memory, Read, Refusal, State};
 
+/// The number of a test's feature, where it does not say another.
+pub const FEATURE: u32 = 0x0403_0201;
+
 pub struct Room {
     pub table: Vec<u8>,
     pub xy: Vec<u64>,
@@ -12,6 +15,8 @@ pub struct Room {
     pub tm: Vec<u64>,
     pub properties: Vec<u8>,
     pub log: Vec<u8>,
+    /// The number that a reading says.
+    pub feature: u32,
 }
 
 pub type Pair = (f64, f64);
@@ -39,6 +44,7 @@ impl Room {
             tm: vec![0; pairs],
             properties: vec![0; 256],
             log: vec![0; 256 * 64],
+            feature: FEATURE,
         }
     }
 
@@ -66,7 +72,8 @@ impl Room {
 
     pub fn read(&mut self, declared: u8, flags: u8) -> (Read, Vec<Event>) {
         let mut log = std::mem::take(&mut self.log);
-        let read = self.memory().tree().read(declared, flags, &mut log);
+        let feature = self.feature;
+        let read = self.memory().tree().read(declared, flags, feature, &mut log);
         let events = Event::in_log(&log, read.count).collect();
         self.log = log;
         (read, events)
@@ -101,16 +108,16 @@ pub fn pairs(count: u32) -> Vec<Pair> {
 }
 
 pub fn line(tagged: bool, idx: u32, pairs: &[Pair]) -> Vec<Event> {
-    let mut events = vec![Event::begin(geometry_type::LINE_STRING, tagged, pairs.len() as u32, idx)];
-    events.extend(pairs.iter().enumerate().map(|(i, &(x, y))| Event::xy(x, y, i as u32)));
-    events.push(Event::end(geometry_type::LINE_STRING, tagged, idx));
+    let mut events = vec![Event::begin(FEATURE, geometry_type::LINE_STRING, tagged, pairs.len() as u32, idx)];
+    events.extend(pairs.iter().enumerate().map(|(i, &(x, y))| Event::xy(FEATURE, x, y, i as u32)));
+    events.push(Event::end(FEATURE, geometry_type::LINE_STRING, tagged, idx));
     events
 }
 
 pub fn framed(kind: u8, tagged: bool, idx: u32, parts: &[Vec<Event>]) -> Vec<Event> {
-    let mut events = vec![Event::begin(kind, tagged, parts.len() as u32, idx)];
+    let mut events = vec![Event::begin(FEATURE, kind, tagged, parts.len() as u32, idx)];
     events.extend(parts.iter().flatten());
-    events.push(Event::end(kind, tagged, idx));
+    events.push(Event::end(FEATURE, kind, tagged, idx));
     events
 }
 
@@ -119,8 +126,13 @@ pub fn polygon(tagged: bool, idx: u32, rings: &[Vec<Pair>]) -> Vec<Event> {
     framed(geometry_type::POLYGON, tagged, idx, &rings)
 }
 
+/// The same events, of a feature of that number.
+pub fn numbered(feature: u32, events: &[Event]) -> Vec<Event> {
+    events.iter().map(|e| Event { feature, ..*e }).collect()
+}
+
 pub fn point_begin(idx: u32) -> Event {
-    Event::begin(geometry_type::POINT, false, 0, idx)
+    Event::begin(FEATURE, geometry_type::POINT, false, 0, idx)
 }
 
 pub fn kinds(events: &[Event]) -> Vec<u8> {

@@ -20,12 +20,12 @@ use Rattle.frames.proofs.take_other.Statement.{statement}
 use Rattle.frames.proofs.take_other.Tie as tie
 
 -- the answer is the definition's
-answers : (c : tie.After-decide-other) → (let a = c .before .before .before .before .before .before .args in c .decide-other .result ≡ decideOther (a .s) (askOf (a .s .typing) (a .e)) (a .ready) (recordsLent (now (a .table))) (length (now (a .ends))))
-answers c = let a = c .before .before .before .before .before .before .args in c .decide-other .ensures ∙ (λ i. decideOther (a .s) (c .before .before .before .ask-of .ensures i) (a .ready) (c .before .records-lent .ensures i) (length (now (a .ends))))
+answers : (c : tie.After-decide-other) → (let a = c .before .before .before .before .before .before .args in c .decide-other .result ≡ decideOther (a .s) (a .n) (askOf (a .s .typing) (a .e)) (a .ready) (recordsLent (now (a .table))) (length (now (a .ends))))
+answers c = let a = c .before .before .before .before .before .before .args in c .decide-other .ensures ∙ (λ i. decideOther (a .s) (a .n) (c .before .before .before .ask-of .ensures i) (a .ready) (c .before .records-lent .ensures i) (length (now (a .ends))))
 
 -- an accepted event found the writer ready, and room
 accepted : (c : tie.Then1) → (let a = c .before .before .before .before .before .before .before .before .args in (a .ready ≡ true) × (otherRoom (a .s) (c .before .before .before .before .before .ask-of .result) (c .before .before .before .records-lent .result) (length (now (a .ends))) ≡ true))
-accepted c = other-accepted _ _ _ _ _ (ap (λ (w : Wrote). w .number) (sym (c .before .before .decide-other .ensures)) ∙ c .if1 .taken)
+accepted c = other-accepted _ _ _ _ _ _ (ap (λ (w : Wrote). w .number) (sym (c .before .before .decide-other .ensures)) ∙ c .if1 .taken)
 
 pub take-other-spec : {M : Type 1} → statement M
 take-other-spec =

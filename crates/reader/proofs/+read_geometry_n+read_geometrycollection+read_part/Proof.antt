@@ -43,13 +43,13 @@ use Rattle.reader.proofs.+read_geometry_n+read_geometrycollection+read_
 use Rattle.reader.proofs.+read_geometry_n+read_geometrycollection+read_part.Tie.{close}
 
 abbrev μ-read-geometry-n : Measures 8 read-geometry-n-kinds.ps ℕ
-μ-read-geometry-n κs a = 4 * a .1 .1 .1 .1 .1 .1 .1 .1 .1 .1 .1 .1 .1 .0 + 2
+μ-read-geometry-n κs a = 4 * a .1 .1 .1 .1 .1 .1 .1 .1 .1 .1 .1 .1 .1 .1 .0 + 2
 
 abbrev μ-read-geometrycollection : Measures 8 read-geometrycollection-kinds.ps ℕ
-μ-read-geometrycollection κs a = 4 * a .1 .1 .1 .1 .1 .1 .1 .1 .1 .1 .1 .1 .1 .1 .0 + 1
+μ-read-geometrycollection κs a = 4 * a .1 .1 .1 .1 .1 .1 .1 .1 .1 .1 .1 .1 .1 .1 .1 .0 + 1
 
 abbrev μ-read-part : Measures 8 read-part-kinds.ps ℕ
-μ-read-part κs a = 4 * a .1 .1 .1 .1 .1 .1 .1 .1 .1 .1 .1 .1 .1 .0
+μ-read-part κs a = 4 * a .1 .1 .1 .1 .1 .1 .1 .1 .1 .1 .1 .1 .1 .1 .0
 
 abbrev read-geometry-n-at : ℕ → In 8 read-geometry-n-kinds.ps
 read-geometry-n-at t =
@@ -91,12 +91,12 @@ read-part-below t =
     and 8 read-part-kinds.ps (falls 8 read-part-kinds.ps _<_ μ-read-part t) read-part.Pre
 
 abbrev read-geometrycollection-Inv-loop : read-geometrycollection-lts.InvT-loop
-read-geometrycollection-Inv-loop log₀ count table xy ends z m t tm flags kind role idx levels start size said₀ i₀ log said i =
+read-geometrycollection-Inv-loop log₀ feature count table xy ends z m t tm flags kind role idx levels start size said₀ i₀ log said i =
     (i ≤ size) × (length log ≡ length log₀)
-    × (run events (partsS (partS flags role levels (recordWith table (poolsOf xy ends z m t tm))) size start 0 ⨟ one (endE kind false idx)) log₀ said₀ ≡ run events (partsS (partS flags role levels (recordWith table (poolsOf xy ends z m t tm))) (size - i) (start + i) i ⨟ one (endE kind false idx)) log said)
+    × (run (events feature) (partsS (partS flags role levels (recordWith table (poolsOf xy ends z m t tm))) size start 0 ⨟ one (endE kind false idx)) log₀ said₀ ≡ run (events feature) (partsS (partS flags role levels (recordWith table (poolsOf xy ends z m t tm))) (size - i) (start + i) i ⨟ one (endE kind false idx)) log said)
 
 abbrev read-geometrycollection-μ-loop : read-geometrycollection-lts.MeasureT-loop
-read-geometrycollection-μ-loop log₀ count table xy ends z m t tm flags kind role idx levels start size said₀ i₀ log said i =
+read-geometrycollection-μ-loop log₀ feature count table xy ends z m t tm flags kind role idx levels start size said₀ i₀ log said i =
     size - i
 
 pub +read-geometry-n+read-geometrycollection+read-part-spec : {M : Type 1} → statement M
@@ -118,7 +118,7 @@ pub +read-geometry-n+read-geometrycollection+read-part-spec : {M : Type 1} → s
     (λ c. let a = c .before .before .before .before .before .before .before .before .before .before .before .before .before .before .before .args in rw (walk-own (a .flags) (a .levels) (recordWith (a .table .now) (poolsOf (a .xy .now) (a .ends .now) (a .z .now) (a .m .now) (a .t .now) (a .tm .now))) (listsOf (poolsOf (a .xy .now) (a .ends .now) (a .z .now) (a .m .now) (a .t .now) (a .tm .now)) (a .g)) (a .idx) (c .before .before .before .before .before .walk .given .1)) (c .before .before .read-own .ensures))
     (λ c. search needs)
     (λ c. let a = c .before .before .before .before .before .before .before .before .before .before .before .before .before .before .before .args in rw (walk-parts (a .flags) (a .levels) (recordWith (a .table .now) (poolsOf (a .xy .now) (a .ends .now) (a .z .now) (a .m .now) (a .t .now) (a .tm .now))) (listsOf (poolsOf (a .xy .now) (a .ends .now) (a .z .now) (a .m .now) (a .t .now) (a .tm .now)) (a .g)) (a .idx) (c .before .before .before .before .before .walk2 .given .1)) (c .before .before .read-geometrycollection .ensures))
-    (λ c. let a = c .before .before .before .before .before .before .before .before .before .before .before .args in ended events _ _ _ refl (walk-refused (a .flags) (a .levels) (recordWith (a .table .now) (poolsOf (a .xy .now) (a .ends .now) (a .z .now) (a .m .now) (a .t .now) (a .tm .now))) (listsOf (poolsOf (a .xy .now) (a .ends .now) (a .z .now) (a .m .now) (a .t .now) (a .tm .now)) (a .g)) (a .idx) (c .before .walk3 .given .1))))
+    (λ c. let a = c .before .before .before .before .before .before .before .before .before .before .before .args in ended (events (a .feature)) _ _ _ refl (walk-refused (a .flags) (a .levels) (recordWith (a .table .now) (poolsOf (a .xy .now) (a .ends .now) (a .z .now) (a .m .now) (a .t .now) (a .tm .now))) (listsOf (poolsOf (a .xy .now) (a .ends .now) (a .z .now) (a .m .now) (a .t .now) (a .tm .now)) (a .g)) (a .idx) (c .before .walk3 .given .1))))
     (λ t. read-geometrycollection-lts.spec (
       begin-reads.Asked,
       begin-reads.Learnt,
@@ -135,25 +135,25 @@ pub +read-geometry-n+read-geometrycollection+read-part-spec : {M : Type 1} → s
     read-geometrycollection-μ-loop
     (λ c. search needs)
     (λ c. search needs)
-    (λ c. let a = c .before .before .before .before .before .before .before .before .before .before .args in ended events _ _ 2 refl (span-absent (partS (a .flags) (a .role) (a .levels) (recordWith (a .table .now) (poolsOf (a .xy .now) (a .ends .now) (a .z .now) (a .m .now) (a .t .now) (a .tm .now)))) (a .kind) (a .idx) (c .enum-told .given .1)))
+    (λ c. let a = c .before .before .before .before .before .before .before .before .before .before .args in ended (events (a .feature)) _ _ 2 refl (span-absent (partS (a .flags) (a .role) (a .levels) (recordWith (a .table .now) (poolsOf (a .xy .now) (a .ends .now) (a .z .now) (a .m .now) (a .t .now) (a .tm .now)))) (a .kind) (a .idx) (c .enum-told .given .1)))
     (λ c κs. search needs)
     (λ c κs. search needs)
     (λ c. search needs)
-    (λ c. let a = c .before .before .before .before .before .before .before .before .before .before .before .before .before .before .before .before .before .before .args in rw (span-there (partS (a .flags) (a .role) (a .levels) (recordWith (a .table .now) (poolsOf (a .xy .now) (a .ends .now) (a .z .now) (a .m .now) (a .t .now) (a .tm .now)))) (a .kind) (a .idx) (c .before .before .before .before .before .before .before .before .parts .given .1)) (no-begin events _ _ _ _ (c .before .before .before .before .before .begin .ensures) (c .before .before .before .before .say .ensures) (c .if1 .taken)))
+    (λ c. let a = c .before .before .before .before .before .before .before .before .before .before .before .before .before .before .before .before .before .before .args in rw (span-there (partS (a .flags) (a .role) (a .levels) (recordWith (a .table .now) (poolsOf (a .xy .now) (a .ends .now) (a .z .now) (a .m .now) (a .t .now) (a .tm .now)))) (a .kind) (a .idx) (c .before .before .before .before .before .before .before .before .parts .given .1)) (no-begin (events (a .feature)) _ _ _ _ (c .before .before .before .before .before .begin .ensures) (c .before .before .before .before .say .ensures) (c .if1 .taken)))
     (λ c. (search needs, refl, rw (sub-zero, add-zero)))
     (λ c. search needs)
     (λ c. search needs)
     (λ c. search needs)
     (λ c κs. search needs)
     (λ c. search needs)
-    (λ c. let a = c .before .before .before .before .before .before .before .before .before .before .before .before .before .before .before .before .before .before .before .before .before .before .before .before .before .before .args in let l = c .before .before .before .before .before .before .before .loop in rw (span-there (partS (a .flags) (a .role) (a .levels) (recordWith (a .table .now) (poolsOf (a .xy .now) (a .ends .now) (a .z .now) (a .m .now) (a .t .now) (a .tm .now)))) (a .kind) (a .idx) (c .before .before .before .before .before .before .before .before .before .before .before .before .before .before .before .before .parts .given .1)) (broke-off events _ _ _ _ {L′ = c .before .before .before .before .read-part .last .0} (began events _ _ _ _ (c .before .before .before .before .before .before .before .before .before .before .before .before .before .begin .ensures) (c .before .before .before .before .before .before .before .before .before .before .before .before .say .ensures) (c .before .before .before .before .before .before .before .before .if1 .left) ∙ l .inv .2) (parts-step _ _ _ (c .before .before .before .before .before .before .loop-test .taken)) (c .before .before .before .before .read-part .ensures) (c .if2 .taken)))
+    (λ c. let a = c .before .before .before .before .before .before .before .before .before .before .before .before .before .before .before .before .before .before .before .before .before .before .before .before .before .before .args in let l = c .before .before .before .before .before .before .before .loop in rw (span-there (partS (a .flags) (a .role) (a .levels) (recordWith (a .table .now) (poolsOf (a .xy .now) (a .ends .now) (a .z .now) (a .m .now) (a .t .now) (a .tm .now)))) (a .kind) (a .idx) (c .before .before .before .before .before .before .before .before .before .before .before .before .before .before .before .before .parts .given .1)) (broke-off (events (a .feature)) _ _ _ _ {L′ = c .before .before .before .before .read-part .last .0} (began (events (a .feature)) _ _ _ _ (c .before .before .before .before .before .before .before .before .before .before .before .before .before .begin .ensures) (c .before .before .before .before .before .before .before .before .before .before .before .before .say .ensures) (c .before .before .before .before .before .before .before .before .if1 .left) ∙ l .inv .2) (parts-step _ _ _ (c .before .before .before .before .before .before .loop-test .taken)) (c .before .before .before .before .read-part .ensures) (c .if2 .taken)))
     (λ c. omega (arith, c .before .before .before .before .before .before .before .before .before .before .before .before .before .before .before .known-told .given))
     (λ c. search needs)
-    (λ c. let a = c .before .before .before .before .before .before .before .before .before .before .before .before .before .before .before .before .before .before .before .before .before .before .before .before .before .before .args in let l = c .before .before .before .before .before .before .before .loop in (search needs, search needs, went-on events _ _ _ _ {L′ = c .before .before .before .before .read-part .last .0} (l .inv .2) (parts-step _ _ _ (c .before .before .before .before .before .before .loop-test .taken)) (c .before .before .before .before .read-part .ensures) (c .if2 .left)))
+    (λ c. let a = c .before .before .before .before .before .before .before .before .before .before .before .before .before .before .before .before .before .before .before .before .before .before .before .before .before .before .args in let l = c .before .before .before .before .before .before .before .loop in (search needs, search needs, went-on (events (a .feature)) _ _ _ _ {L′ = c .before .before .before .before .read-part .last .0} (l .inv .2) (parts-step _ _ _ (c .before .before .before .before .before .before .loop-test .taken)) (c .before .before .before .before .read-part .ensures) (c .if2 .left)))
     (λ c κs. c .before .before .before .before .before .before .before .before .before .before .before .before .before .before .before .before .before .before .before .before .before .pre .1)
     (λ c κs. search needs)
     (λ c. search needs)
-    (λ c. let a = c .before .before .before .before .before .before .before .before .before .before .before .before .before .before .before .before .before .before .before .before .before .before .before .before .before .args in let l = c .before .before .before .before .before .before .loop in rw (span-there (partS (a .flags) (a .role) (a .levels) (recordWith (a .table .now) (poolsOf (a .xy .now) (a .ends .now) (a .z .now) (a .m .now) (a .t .now) (a .tm .now)))) (a .kind) (a .idx) (c .before .before .before .before .before .before .before .before .before .before .before .before .before .before .before .parts .given .1)) (began events _ _ _ _ (c .before .before .before .before .before .before .before .before .before .before .before .before .begin .ensures) (c .before .before .before .before .before .before .before .before .before .before .before .say .ensures) (c .before .before .before .before .before .before .before .if1 .left) ∙ l .inv .2 ∙ ap (λ (s : Script Event). run events s (l .log) (l .said)) (parts-over _ _ _ (c .before .before .before .before .before .loop-test .left)) ∙ (rw (c .before .before .before .end .ensures) at (c .before .before .say2 .ensures)))))
+    (λ c. let a = c .before .before .before .before .before .before .before .before .before .before .before .before .before .before .before .before .before .before .before .before .before .before .before .before .before .args in let l = c .before .before .before .before .before .before .loop in rw (span-there (partS (a .flags) (a .role) (a .levels) (recordWith (a .table .now) (poolsOf (a .xy .now) (a .ends .now) (a .z .now) (a .m .now) (a .t .now) (a .tm .now)))) (a .kind) (a .idx) (c .before .before .before .before .before .before .before .before .before .before .before .before .before .before .before .parts .given .1)) (began (events (a .feature)) _ _ _ _ (c .before .before .before .before .before .before .before .before .before .before .before .before .begin .ensures) (c .before .before .before .before .before .before .before .before .before .before .before .say .ensures) (c .before .before .before .before .before .before .before .if1 .left) ∙ l .inv .2 ∙ ap (λ (s : Script Event). run (events (a .feature)) s (l .log) (l .said)) (parts-over _ _ _ (c .before .before .before .before .before .loop-test .left)) ∙ (rw (c .before .before .before .end .ensures) at (c .before .before .say2 .ensures)))))
     λ t. read-part-lts.spec (
       lone-part-reads.Asked,
       lone-part-reads.Learnt,
@@ -170,7 +170,7 @@ pub +read-geometry-n+read-geometrycollection+read-part-spec : {M : Type 1} → s
     )
     (read-part-at t)
     read-part.Post
-    (λ c. let a = c .before .before .before .before .before .before .before .before .before .args in ended events _ _ 13 refl (part-deep (a .flags) (a .role) (a .levels) (recordWith (a .table .now) (poolsOf (a .xy .now) (a .ends .now) (a .z .now) (a .m .now) (a .t .now) (a .tm .now))) (a .n) (a .idx) (c .if1 .taken)))
+    (λ c. let a = c .before .before .before .before .before .before .before .before .before .args in ended (events (a .feature)) _ _ 13 refl (part-deep (a .flags) (a .role) (a .levels) (recordWith (a .table .now) (poolsOf (a .xy .now) (a .ends .now) (a .z .now) (a .m .now) (a .t .now) (a .tm .now))) (a .n) (a .idx) (c .if1 .taken)))
     (λ c κs. search needs)
     (λ c. search needs)
     (λ c. search needs)
@@ -193,4 +193,4 @@ pub +read-geometry-n+read-geometrycollection+read-part-spec : {M : Type 1} → s
     (λ c. search needs)
     (λ c. search needs)
     (λ c. let a = c .before .before .before .before .before .before .before .before .before .before .before .before .before .before .before .before .before .before .before .before .before .before .args in rw (part-good (a .flags) (a .role) (a .levels) (recordWith (a .table .now) (poolsOf (a .xy .now) (a .ends .now) (a .z .now) (a .m .now) (a .t .now) (a .tm .now))) (a .n) (a .idx) (c .before .before .before .before .before .before .before .before .before .before .before .before .before .if1 .left) (listsOf (poolsOf (a .xy .now) (a .ends .now) (a .z .now) (a .m .now) (a .t .now) (a .tm .now)) (c .before .before .before .before .before .before .g .given .0 .0)) (good-record (a .table .now) (poolsOf (a .xy .now) (a .ends .now) (a .z .now) (a .m .now) (a .t .now) (a .tm .now)) (a .n) (c .before .before .before .before .before .before .before .before .before .new .ensures) (c .before .before .before .before .before .before .before .before .record-at .ensures) (c .before .before .before .before .before .before .g .given .1)) ∙ ap (λ (w : Walk). walkS (a .flags) (a .levels - 1) (recordWith (a .table .now) (poolsOf (a .xy .now) (a .ends .now) (a .z .now) (a .m .now) (a .t .now) (a .tm .now))) (listsOf (poolsOf (a .xy .now) (a .ends .now) (a .z .now) (a .m .now) (a .t .now) (a .tm .now)) (c .before .before .before .before .before .before .g .given .0 .0)) w (a .idx)) (sym (c .before .before .before .before .walk-in .ensures))) (c .before .before .read-geometry-n .ensures))
-    (λ c. let a = c .before .before .before .before .before .before .before .before .before .before .before .before .before .before .before .before .args in ended events _ _ 10 refl (part-bad (a .flags) (a .role) (a .levels) (recordWith (a .table .now) (poolsOf (a .xy .now) (a .ends .now) (a .z .now) (a .m .now) (a .t .now) (a .tm .now))) (a .n) (a .idx) (c .before .before .before .before .before .before .before .if1 .left) (bad-record (a .table .now) (poolsOf (a .xy .now) (a .ends .now) (a .z .now) (a .m .now) (a .t .now) (a .tm .now)) (a .n) (c .before .before .before .new .ensures) (c .before .before .record-at .ensures) (c .enum-told2 .given .1))))
+    (λ c. let a = c .before .before .before .before .before .before .before .before .before .before .before .before .before .before .before .before .args in ended (events (a .feature)) _ _ 10 refl (part-bad (a .flags) (a .role) (a .levels) (recordWith (a .table .now) (poolsOf (a .xy .now) (a .ends .now) (a .z .now) (a .m .now) (a .t .now) (a .tm .now))) (a .n) (a .idx) (c .before .before .before .before .before .before .before .if1 .left) (bad-record (a .table .now) (poolsOf (a .xy .now) (a .ends .now) (a .z .now) (a .m .now) (a .t .now) (a .tm .now)) (a .n) (c .before .before .before .new .ensures) (c .before .before .record-at .ensures) (c .enum-told2 .given .1))))

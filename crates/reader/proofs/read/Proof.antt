@@ -26,5 +26,5 @@ read-spec =
     (λ c κs. let a = c .before .before .before .before .before .before .before .before .before .before .before .before .before .before .before .before .args in (good-lists (a .table .now) (poolsOf (a .xy .now) (a .ends .now) (a .z .now) (a .m .now) (a .t .now) (a .tm .now)) 0 (c .before .before .before .before .before .before .before .new .ensures) (c .before .before .before .before .before .before .record-at .ensures) (c .before .before .before .before .g .given .1), rw (c .before .walk-of .ensures) (walk-typed _ _)))
     (λ c. search needs)
     (λ c. search needs)
-    (λ c. let a = c .before .before .before .before .before .before .before .before .before .before .before .before .before .before .before .before .before .before .before .args in said events (rw (read-good (a .flags) (recordWith (a .table .now) (poolsOf (a .xy .now) (a .ends .now) (a .z .now) (a .m .now) (a .t .now) (a .tm .now))) (a .declared) (listsOf (poolsOf (a .xy .now) (a .ends .now) (a .z .now) (a .m .now) (a .t .now) (a .tm .now)) (c .before .before .before .before .before .before .before .g .given .0 .0)) (good-record (a .table .now) (poolsOf (a .xy .now) (a .ends .now) (a .z .now) (a .m .now) (a .t .now) (a .tm .now)) 0 (c .before .before .before .before .before .before .before .before .before .before .new .ensures) (c .before .before .before .before .before .before .before .before .before .record-at .ensures) (c .before .before .before .before .before .before .before .g .given .1)) ∙ ap (λ (w : Walk). walkS (a .flags) 15 (recordWith (a .table .now) (poolsOf (a .xy .now) (a .ends .now) (a .z .now) (a .m .now) (a .t .now) (a .tm .now))) (listsOf (poolsOf (a .xy .now) (a .ends .now) (a .z .now) (a .m .now) (a .t .now) (a .tm .now)) (c .before .before .before .before .before .before .before .g .given .0 .0)) w 0) (sym (c .before .before .before .before .walk-of .ensures ∙ ap (λ (k : ℕ). walkOf k ((c .before .before .before .before .before .before .before .g .given .0 .0) .kind)) (c .before .before .before .before .before .type-of .ensures)))) (c .before .before .read-geometry-n .ensures)))
-    (λ c. let a = c .before .before .before .before .before .before .before .before .before .before .before .before .args in said events (ended events _ _ 10 refl (read-bad (a .flags) (recordWith (a .table .now) (poolsOf (a .xy .now) (a .ends .now) (a .z .now) (a .m .now) (a .t .now) (a .tm .now))) (a .declared) (bad-record (a .table .now) (poolsOf (a .xy .now) (a .ends .now) (a .z .now) (a .m .now) (a .t .now) (a .tm .now)) 0 (c .before .before .before .new .ensures) (c .before .before .record-at .ensures) (c .enum-told .given .1))))))
+    (λ c. let a = c .before .before .before .before .before .before .before .before .before .before .before .before .before .before .before .before .before .before .before .args in said (events (a .feature)) (rw (read-good (a .flags) (recordWith (a .table .now) (poolsOf (a .xy .now) (a .ends .now) (a .z .now) (a .m .now) (a .t .now) (a .tm .now))) (a .declared) (listsOf (poolsOf (a .xy .now) (a .ends .now) (a .z .now) (a .m .now) (a .t .now) (a .tm .now)) (c .before .before .before .before .before .before .before .g .given .0 .0)) (good-record (a .table .now) (poolsOf (a .xy .now) (a .ends .now) (a .z .now) (a .m .now) (a .t .now) (a .tm .now)) 0 (c .before .before .before .before .before .before .before .before .before .before .new .ensures) (c .before .before .before .before .before .before .before .before .before .record-at .ensures) (c .before .before .before .before .before .before .before .g .given .1)) ∙ ap (λ (w : Walk). walkS (a .flags) 15 (recordWith (a .table .now) (poolsOf (a .xy .now) (a .ends .now) (a .z .now) (a .m .now) (a .t .now) (a .tm .now))) (listsOf (poolsOf (a .xy .now) (a .ends .now) (a .z .now) (a .m .now) (a .t .now) (a .tm .now)) (c .before .before .before .before .before .before .before .g .given .0 .0)) w 0) (sym (c .before .before .before .before .walk-of .ensures ∙ ap (λ (k : ℕ). walkOf k ((c .before .before .before .before .before .before .before .g .given .0 .0) .kind)) (c .before .before .before .before .before .type-of .ensures)))) (c .before .before .read-geometry-n .ensures)))
+    (λ c. let a = c .before .before .before .before .before .before .before .before .before .before .before .before .args in said (events (a .feature)) (ended (events (a .feature)) _ _ 10 refl (read-bad (a .flags) (recordWith (a .table .now) (poolsOf (a .xy .now) (a .ends .now) (a .z .now) (a .m .now) (a .t .now) (a .tm .now))) (a .declared) (bad-record (a .table .now) (poolsOf (a .xy .now) (a .ends .now) (a .z .now) (a .m .now) (a .t .now) (a .tm .now)) 0 (c .before .before .before .new .ensures) (c .before .before .record-at .ensures) (c .enum-told .given .1))))))

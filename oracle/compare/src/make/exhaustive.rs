@@ -1,9 +1,11 @@
 //! All short inputs over small alphabets.
+use super::numbers::{number, put_numbers};
 use super::records::{begin, coordinate, end, laid, xy, Node, TAGGED_TYPES, TYPES};
 use crate::input::{once, Call, Input, Properties, Row, Tree, What};
 
 pub fn each(give: &mut dyn FnMut(Input)) {
     rows(give);
+    rows_of_two_features(give);
     ends(give);
     part_types(give);
     boxes(give);
@@ -33,7 +35,7 @@ fn alphabet() -> Vec<Vec<What>> {
 }
 
 /// Rows of up to three letters, each closed by a finish and a next: three for the declared types that have rules of their own, two
-/// for all others.
+/// for all others. The events of each row have one number.
 fn rows(give: &mut dyn FnMut(Input)) {
     let letters = alphabet();
     for declared in (0..=18).chain([255]) {
@@ -41,22 +43,44 @@ fn rows(give: &mut dyn FnMut(Input)) {
         for switches in 0..4 {
             for length in 0..=longest {
                 for code in 0..letters.len().pow(length) {
-                    let at = |place: u32| &letters[code / letters.len().pow(place) % letters.len()];
-                    let closing = [What::Finish, What::Next];
-                    let calls = (0..length).flat_map(at).chain(&closing).cloned().map(Call::from).collect();
-                    let (detect, promote) = (switches & 1 != 0, switches & 2 != 0);
-                    give(Input::Row(Row {
-                        declared,
-                        detect,
-                        promote,
-                        held: [320, 12, 5, 4, 4, 4, 4, 20],
-                        scrambled: false,
-                        calls,
-                    }));
+                    let mut row = row(&letters, declared, switches, length, code);
+                    put_numbers(&mut row.calls, |_, _| number(code));
+                    give(Input::Row(row));
                 }
             }
         }
     }
+}
+
+/// Rows of two letters under every declared type, and of three under that of a collection, in which some events have another number
+/// than the first.
+fn rows_of_two_features(give: &mut dyn FnMut(Input)) {
+    let letters = alphabet();
+    for declared in (0..=18).chain([255]) {
+        for length in if declared == COLLECTION { 2..=3 } else { 2..=2 } {
+            for switches in 0..if length == 2 { 4 } else { 1 } {
+                for code in 0..letters.len().pow(length) {
+                    // The bits of `others` say which events these are, from the second on.
+                    for others in 1..1usize << (length - 1) {
+                        let mut row = row(&letters, declared, switches, length, code);
+                        put_numbers(&mut row.calls, |place, _| number(code + (others << 1 >> place & 1)));
+                        give(Input::Row(row));
+                    }
+                }
+            }
+        }
+    }
+}
+
+const COLLECTION: u8 = 7;
+
+/// The row of so many letters that a code stands for.
+fn row(letters: &[Vec<What>], declared: u8, switches: u8, length: u32, code: usize) -> Row {
+    let at = |place: u32| &letters[code / letters.len().pow(place) % letters.len()];
+    let closing = [What::Finish, What::Next];
+    let calls = (0..length).flat_map(at).chain(&closing).cloned().map(Call::from).collect();
+    let (detect, promote) = (switches & 1 != 0, switches & 2 != 0);
+    Row { declared, detect, promote, held: [320, 12, 5, 4, 4, 4, 4, 20], scrambled: false, calls }
 }
 
 /// Ends lists of up to three over 0 to 3, and one of 2^31, in every type that reads ends, over xy lists of up to seven words.
@@ -82,7 +106,7 @@ fn with_ends(kind: u8, ends: &[u64], words: Option<u64>, flags: u8, cut: u32) ->
         Node { kind, lists: [xy, Some(ends.to_vec()), Some(vec![1, 2, 3]), None, None, None], parts: None }
     };
     let root = if kind == 6 { Node { kind, parts: Some(vec![own(3)]), ..Default::default() } } else { own(kind) };
-    Tree { store: laid(root, || 0), declared: 0, flags, cut }
+    Tree { store: laid(root, || 0), declared: 0, flags, feature: number(cut as usize), cut }
 }
 
 /// Every type inside every type, under every declared type that there is, and every type number at the root.
@@ -96,13 +120,15 @@ fn part_types(give: &mut dyn FnMut(Input)) {
         for stored in 0..=18 {
             for kind in 0..=18 {
                 let root = Node { parts: Some(vec![leaf(kind), leaf(2)]), ..leaf(stored) };
-                give(Input::Tree(Tree { store: laid(root, || 0), declared, flags: 0, cut: kind.into() }));
+                let feature = number(usize::from(stored) + usize::from(kind));
+                give(Input::Tree(Tree { store: laid(root, || 0), declared, flags: 0, feature, cut: kind.into() }));
             }
         }
     }
     for kind in 0..=255 {
-        give(Input::Tree(Tree { store: laid(leaf(kind), || 0), declared: 0, flags: 0, cut: kind.into() }));
-        give(Input::Tree(Tree { store: laid(leaf(3), || 0), declared: kind, flags: 2, cut: kind.into() }));
+        let (feature, cut) = (number(kind.into()), kind.into());
+        give(Input::Tree(Tree { store: laid(leaf(kind), || 0), declared: 0, flags: 0, feature, cut }));
+        give(Input::Tree(Tree { store: laid(leaf(3), || 0), declared: kind, flags: 2, feature, cut }));
     }
 }
 
@@ -134,7 +160,7 @@ fn boxed(give: &mut dyn FnMut(Input), lists: [Option<Vec<u64>>; 3]) {
     let nested = Node { parts: Some(vec![third.clone()]), ..second.clone() };
     for parts in [vec![nested], vec![second, third]] {
         let root = Node { parts: Some(parts), ..root.clone() };
-        give(Input::Tree(Tree { store: laid(root, || 0), declared: 0, flags: 0, cut: 0 }));
+        give(Input::Tree(Tree { store: laid(root, || 0), declared: 0, flags: 0, feature: 1, cut: 0 }));
     }
 }
 

@@ -1,5 +1,6 @@
 //! FlatGeobuf files that GDAL made: each feature's tables turned into geometry records, read under the file's type and under its
 //! own with every set of flags, its property bytes read, and its events written again by both sides.
+use super::numbers::{number, put_numbers};
 use crate::input::{Call, Input, Properties, Row, Tree, What};
 use original::events::u32_at;
 use original::reading::read_feature;
@@ -73,7 +74,8 @@ impl Feature {
     pub fn each(&self, give: &mut dyn FnMut(Input)) {
         for flags in 0..16 {
             for declared in [self.declared, 0] {
-                give(Input::Tree(Tree { store: self.store.clone(), declared, flags, cut: 40 }));
+                let feature = number(flags.into());
+                give(Input::Tree(Tree { store: self.store.clone(), declared, flags, feature, cut: 40 }));
             }
             give(Input::Row(again(&self.bytes, self.declared, flags)));
         }
@@ -89,7 +91,7 @@ impl Feature {
     }
 }
 
-/// A row that writes the events of a feature twice.
+/// A row that writes the events of a feature twice, under two numbers.
 fn again(bytes: &[u8], declared: u8, flags: u8) -> Row {
     let events = read_feature(bytes, declared, flags).events;
     let mut calls: Vec<Call> = vec![];
@@ -97,5 +99,6 @@ fn again(bytes: &[u8], declared: u8, flags: u8) -> Row {
         calls.extend(events.chunks(64).map(|event| What::Event { bytes: event.to_vec(), times: 1 }.into()));
         calls.extend([What::Finish.into(), What::Next.into()]);
     }
+    put_numbers(&mut calls, |_, nexts| number(usize::from(flags) + nexts));
     Row { declared, detect: false, promote: false, held: [64 * 64, 512, 64, 256, 256, 256, 256, 0], scrambled: true, calls }
 }

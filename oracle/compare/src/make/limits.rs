@@ -1,4 +1,5 @@
 //! Inputs at the limits of SPEC 12.4: pairs, parts, ends, property bytes, levels, records and the log.
+use super::numbers::{number, put_numbers};
 use super::records::{begin, coordinate, end, laid, xy, Node};
 use crate::input::{once, Call, Input, Properties, Row, Tree, What};
 use original::tree::{put_list, Store};
@@ -19,7 +20,8 @@ pub fn each(give: &mut dyn FnMut(Input)) {
 }
 
 fn row(give: &mut dyn FnMut(Input), declared: u8, calls: Vec<What>) {
-    let calls: Vec<Call> = calls.into_iter().map(Call::from).collect();
+    let mut calls: Vec<Call> = calls.into_iter().map(Call::from).collect();
+    put_numbers(&mut calls, |_, nexts| u32::MAX - nexts as u32);
     give(Input::Row(Row { declared, detect: false, promote: false, held: ALL, scrambled: false, calls }));
 }
 
@@ -83,7 +85,8 @@ fn levels(give: &mut dyn FnMut(Input)) {
             for _ in 1..depth {
                 node = Node { kind: 7, parts: Some(vec![node]), ..Default::default() };
             }
-            give(Input::Tree(Tree { store: laid(node, || 0), declared: 0, flags: 0, cut: depth }));
+            let feature = number(depth as usize);
+            give(Input::Tree(Tree { store: laid(node, || 0), declared: 0, flags: 0, feature, cut: depth }));
         }
     }
 }
@@ -103,7 +106,7 @@ fn records(give: &mut dyn FnMut(Input)) {
             put_list(record, 0, 2 * n, 2);
         }
         for cut in [0, 4095, 4096, 4097] {
-            give(Input::Tree(Tree { store: store.clone(), declared: 0, flags: 0, cut }));
+            give(Input::Tree(Tree { store: store.clone(), declared: 0, flags: 0, feature: u32::MAX - cut, cut }));
         }
     }
 }
@@ -120,7 +123,7 @@ fn lists_at_usable_ends(give: &mut dyn FnMut(Input)) {
             store.table[0] = 4;
             put_list(&mut store.table, 0, 0, 4);
             put_list(&mut store.table, pool, start, count);
-            give(Input::Tree(Tree { store, declared: 0, flags: 15, cut: 77 }));
+            give(Input::Tree(Tree { store, declared: 0, flags: 15, feature: number(pool), cut: 77 }));
         }
     }
 }
@@ -139,7 +142,7 @@ fn full_log(give: &mut dyn FnMut(Input)) {
         record(&mut store, part, 4, 0, 0, 131_072);
     }
     for cut in [0, 64 * 1_048_576 - 1] {
-        give(Input::Tree(Tree { store: store.clone(), declared: 0, flags: 0, cut }));
+        give(Input::Tree(Tree { store: store.clone(), declared: 0, flags: 0, feature: u32::MAX, cut }));
     }
 }
 

@@ -3,6 +3,7 @@ pub mod exhaustive;
 pub mod files;
 pub mod limits;
 pub mod lists;
+pub mod numbers;
 pub mod odd;
 pub mod pick;
 pub mod records;

@@ -1,4 +1,5 @@
 //! The smallest inputs of what docs/DIFFERENCES.md tells of writing, and other rows that a porter could get wrong.
+use super::numbers::put_number;
 use super::records::{begin, coordinate, end, xy};
 use crate::input::{once, Call, Input, Row, What};
 
@@ -6,7 +7,7 @@ const DETECT: u8 = 1;
 const PROMOTE: u8 = 2;
 
 /// What it shows, the declared type, the switches, the calls: a begin is its type's number, an end has a minus before it, `t` is
-/// tagged, `done` is finish and next.
+/// tagged, `bad` is malformed, `done` is finish and next. Behind an `@` stands the number of an event's feature, which is else 0.
 const ROWS: [(&str, u8, u8, &str); 28] = [
     ("B3", 3, 0, "3t -3t done"),
     ("B5", 5, PROMOTE, "2t xy xy -2t done"),
@@ -39,17 +40,36 @@ const ROWS: [(&str, u8, u8, &str); 28] = [
 ];
 
 pub fn each(give: &mut dyn FnMut(Input)) {
-    for (what, declared, switches, text) in ROWS {
-        let calls: Option<Vec<Vec<What>>> = text.split(' ').map(letter).collect();
-        let calls = calls.unwrap_or_else(|| panic!("{what}: not calls")).into_iter().flatten().map(Call::from).collect();
-        let (detect, promote) = (switches & DETECT != 0, switches & PROMOTE != 0);
-        give(Input::Row(Row { declared, detect, promote, held: [512, 32, 8, 4, 4, 4, 4, 8], scrambled: true, calls }));
-    }
+    rows().for_each(|row| give(Input::Row(row)));
+}
+
+pub fn rows() -> impl Iterator<Item = Row> {
+    ROWS.into_iter().map(|(what, declared, switches, text)| row(what, declared, switches, text))
+}
+
+pub fn row(what: &str, declared: u8, switches: u8, text: &str) -> Row {
+    let calls: Option<Vec<Vec<What>>> = text.split(' ').map(letter).collect();
+    let calls = calls.unwrap_or_else(|| panic!("{what}: not calls")).into_iter().flatten().map(Call::from).collect();
+    let (detect, promote) = (switches & DETECT != 0, switches & PROMOTE != 0);
+    Row { declared, detect, promote, held: [512, 32, 8, 4, 4, 4, 4, 8], scrambled: true, calls }
 }
 
 fn letter(word: &str) -> Option<Vec<What>> {
-    let event = match word {
+    match word {
         "done" => return Some(vec![What::Finish, What::Next]),
+        "finish" => return Some(vec![What::Finish]),
+        "next" => return Some(vec![What::Next]),
+        _ => {}
+    }
+    let (word, number) = word.split_once('@').unwrap_or((word, "0"));
+    let mut event = event(word)?;
+    put_number(&mut event, number.parse().ok()?);
+    Some(vec![once(event)])
+}
+
+fn event(word: &str) -> Option<[u8; 64]> {
+    Some(match word {
+        "bad" => begin(64, 1, 0, 0),
         "xy" => xy(3, 4, 0),
         "z" => coordinate(5, 6, 1, [7, 0, 0, 0], 0),
         _ => {
@@ -59,6 +79,5 @@ fn letter(word: &str) -> Option<Vec<What>> {
                 None => begin(kind.parse().ok()?, tagged, 0, 0),
             }
         }
-    };
-    Some(vec![once(event)])
+    })
 }

@@ -1,4 +1,5 @@
 //! Random choices from a seed (splitmix64).
+use super::numbers::NUMBERS;
 
 pub struct Pick(pub u64);
 
@@ -35,6 +36,15 @@ impl Pick {
             self.of(&SPECIAL)
         } else {
             self.word()
+        }
+    }
+
+    /// The number of a feature.
+    pub fn number(&mut self) -> u32 {
+        if self.one_in(2) {
+            self.of(&NUMBERS)
+        } else {
+            self.word() as u32
         }
     }
 

@@ -1,9 +1,12 @@
-//! Random rows of calls: well nested features, wild events, malformed ones, and memory lent just long enough or not quite.
+//! Random rows of calls: well nested features, wild events, malformed ones, events of other features, and memory lent just long enough
+//! or not quite.
 use super::lists::text;
+use super::numbers::{put_number, put_numbers};
 use super::pick::Pick;
 use super::records::{begin, coordinate, end, xy, TAGGED_TYPES, TYPES};
 use crate::input::{once, Call, Row, What};
 use crate::port::Lengths;
+use original::events::feature_of;
 
 pub fn row(pick: &mut Pick) -> Row {
     let declared = match pick.below(8) {
@@ -28,6 +31,9 @@ pub fn row(pick: &mut Pick) -> Row {
             features(pick, &mut row);
             damage(pick, &mut row);
         }
+    }
+    if pick.one_in(4) {
+        stray(pick, &mut row);
     }
     row
 }
@@ -56,6 +62,22 @@ fn features(pick: &mut Pick, row: &mut Row) {
         geometry(pick, kind, 1, 3, &mut row.calls);
         row.calls.push(What::Finish.into());
         row.calls.push(What::Next.into());
+    }
+    let numbers = [pick.number(), pick.number(), pick.number()];
+    put_numbers(&mut row.calls, |_, nexts| numbers[nexts]);
+}
+
+/// Some events have another number, any or one of another event.
+fn stray(pick: &mut Pick, row: &mut Row) {
+    for _ in 0..(1 + pick.below(3)).min(row.calls.len()) {
+        let (at, other) = (pick.below(row.calls.len()), pick.below(row.calls.len()));
+        let number = match &row.calls[other].what {
+            What::Event { bytes, .. } if bytes.len() == 64 && pick.one_in(2) => feature_of(bytes),
+            _ => pick.number(),
+        };
+        if let What::Event { bytes, .. } = &mut row.calls[at].what {
+            put_number(bytes, number);
+        }
     }
 }
 
@@ -113,6 +135,9 @@ fn wild(pick: &mut Pick, row: &mut Row) {
         let cut = pick.one_in(4).then(|| cut(pick));
         row.calls.push(Call { what, cut });
     }
+    let numbers = [pick.number(), pick.number()];
+    let strays = pick.one_in(2);
+    put_numbers(&mut row.calls, |_, nexts| numbers[(nexts + usize::from(strays && pick.one_in(6))) % 2]);
 }
 
 fn wild_event(pick: &mut Pick) -> [u8; 64] {

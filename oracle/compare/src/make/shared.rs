@@ -1,6 +1,7 @@
 //! Tables in which parts are shared, come to at several levels, bad, or too deep: what a box can meet on its way (SPEC 7.4, 8).
 //!
 //! Where a table is large its records are Points, so that a reading says nothing of their parts; a box goes by the parts of every type.
+use super::numbers::number;
 use crate::input::{Input, Tree};
 use original::tree::{put_list, Store, MOST_LEVELS, MOST_RECORDS};
 use std::ops::Range;
@@ -18,7 +19,8 @@ pub fn each(give: &mut dyn FnMut(Input)) {
 }
 
 fn tree(give: &mut dyn FnMut(Input), store: Store) {
-    give(Input::Tree(Tree { store, declared: 0, flags: 0, cut: 5 }));
+    let feature = number(store.records());
+    give(Input::Tree(Tree { store, declared: 0, flags: 0, feature, cut: 5 }));
 }
 
 /// One record in the other, to the last level, past it, and far past it.

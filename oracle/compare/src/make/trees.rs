@@ -33,7 +33,7 @@ pub fn tree(pick: &mut Pick) -> Tree {
         _ => kind,
     };
     let flags = if pick.one_in(2) { 0 } else { pick.byte() % 16 };
-    Tree { store, declared, flags, cut: pick.word() as u32 }
+    Tree { store, declared, flags, feature: pick.number(), cut: pick.word() as u32 }
 }
 
 /// A tree whose records have one holder each; in one of three, some then have several.

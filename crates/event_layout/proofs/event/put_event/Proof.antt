@@ -24,9 +24,10 @@ put-event-spec =
     let start = first .before .before .before .before in
     let l = now (start .args .bytes) in
     let e = start .args .e in
+    let feature = start .args .feature in
     let head = headBytes (e .kind) (bit (e .tagged)) (e .present) ++ le 4 (e .size) in
-    let idx = head ++ (le 4 (e .idx) ++ le 4 0) in
+    let idx = head ++ (le 4 (e .idx) ++ le 4 feature) in
     then l idx (doubleBytes e) 0 16
-    (then l head (le 4 (e .idx) ++ le 4 0) 0 8 (rw (first .before .byte-of .ensures) at (first .put-first .ensures)) refl (second .put-padded .ensures))
+    (then l head (le 4 (e .idx) ++ le 4 feature) 0 8 (rw (first .before .byte-of .ensures) at (first .put-first .ensures)) refl (second .put-two .ensures))
     refl (third .put-doubles .ensures)
     ∙ sets-whole l (idx ++ doubleBytes e) (start .pre)))

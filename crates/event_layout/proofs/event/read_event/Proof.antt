@@ -14,7 +14,7 @@ use Rattle.event_layout.specs.EventLaws.{whole-read}
 use Rattle.event_layout.proofs.event.read_event.Statement.{statement}
 use Rattle.event_layout.proofs.event.read_event.Tie as tie
 
--- the fields and the test of the spare bytes are those of the bytes
+-- the fields and the test of the spare byte are those of the bytes
 read : (c : tie.After-spare-zero) → toldApart (parsed (c .spare-zero .result) (c .before .event-of .result)) ≡ toldApart (readEvent (now (c .before .before .before .before .args .bytes)))
 read c =
     (λ i. toldApart (parsed (c .spare-zero .ensures i) (c .before .event-of .ensures i))) ∙ sym (ap toldApart (whole-read (now (c .before .before .before .before .args .bytes)) (c .before .before .if1 .left)))

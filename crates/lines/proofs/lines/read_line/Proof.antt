@@ -10,7 +10,7 @@ pub read-line-spec : {M : Type 1} → statement M
 read-line-spec =
     tie.close
     (tie.spec
-    (λ c. let a = c .before .before .before .before .before .before .before .before .args in ended events _ _ 1 refl (flat-absent (a .seen) (a .xy .now) (a .z .now) (a .m .now) (a .t .now) (a .tm .now) (a .kind) (a .tagged) (a .idx) (c .if1 .taken)))
+    (λ c. let a = c .before .before .before .before .before .before .before .before .args in ended (events (a .feature)) _ _ 1 refl (flat-absent (a .seen) (a .xy .now) (a .z .now) (a .m .now) (a .t .now) (a .tm .now) (a .kind) (a .tagged) (a .idx) (c .if1 .taken)))
     (λ c. search needs)
     (λ c κs. search needs)
     (λ c. search needs)

@@ -13,7 +13,7 @@ read-multilinestring-part-spec =
     tie.close
     (tie.spec
     (λ c κs. search needs)
-    (λ c. let a = c .before .before .before .before .before .before .before .before .args in ended events _ _ 8 refl (stretch-bad (coordsIn (a .seen) (a .xy .now) (a .z .now) (a .m .now) (a .t .now) (a .tm .now)) (a .before) (a .end) (a .idx) (c .before .bad-end .ensures) (c .if1 .taken)))
+    (λ c. let a = c .before .before .before .before .before .before .before .before .args in ended (events (a .feature)) _ _ 8 refl (stretch-bad (coordsIn (a .seen) (a .xy .now) (a .z .now) (a .m .now) (a .t .now) (a .tm .now)) (a .before) (a .end) (a .idx) (c .before .bad-end .ensures) (c .if1 .taken)))
     (λ c κs. let a = c .before .before .before .before .before .before .before .before .args in good-end (a .before) (a .end) (c .before .bad-end .ensures) (c .if1 .left))
     (λ c. let a = c .before .before .before .before .before .before .before .before .before .args in omega (arith, good-end (a .before) (a .end) (c .before .before .bad-end .ensures) (c .before .if1 .left)))
     (λ c κs. search needs)

@@ -17,7 +17,7 @@ say-spec =
     (λ c κs. search needs)
     (λ c. search needs)
     (λ c. unfold events in let a = c .before .before .before .before .args in
-    one-full events (a .e) (now (a .log)) (a .count) (is-false (c .before .has-room .ensures) (c .if1 .taken)))
+    one-full (events (a .feature)) (a .e) (now (a .log)) (a .count) (is-false (c .before .has-room .ensures) (c .if1 .taken)))
     (λ c. omega (arith, room-in 64 _ _ (is-true (c .before .has-room .ensures) (c .if1 .left))))
     (λ c. omega (arith, room-in 64 _ _ (is-true (c .before .has-room .ensures) (c .if1 .left))))
     (λ c. search needs)
@@ -28,4 +28,4 @@ say-spec =
     (λ c. search needs)
     (λ c. unfold events in let a = c .before .before .before .before .before .before .before .before .args in
     let room = is-true (c .before .before .before .before .before .has-room .ensures) (c .before .before .before .before .if1 .left) in
-    rw (c .before .before .put-event .ensures) (said-in-part events (a .e) (now (a .log)) (a .count) room (64 * a .count + 64) refl)))
+    rw (c .before .before .put-event .ensures) (said-in-part (events (a .feature)) (a .e) (now (a .log)) (a .count) room (64 * a .count + 64) refl)))
