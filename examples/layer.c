@@ -263,7 +263,9 @@ static int holds(const bintolage_state *state, uint8_t has, uint32_t feature)
 static void check_held(uint32_t feature)
 {
     const bintolage_event_record given = bintolage_xy(feature, 1, 2, 0), stray = bintolage_xy(feature + 1, 1, 2, 0);
+    const bintolage_event_record two[] = {given, stray};
     bintolage_state state, before;
+    size_t taken = 0;
     bintolage_start(&state, 0, 0, 0);
     check("no number at first", holds(&state, 0, 0));
     check("a malformed event", bintolage_give(&state, &all, bintolage_begin(feature, 0, 0, 0, 0)) == BINTOLAGE_MALFORMED);
@@ -272,7 +274,8 @@ static void check_held(uint32_t feature)
     before = state;
     check("an event of another feature", bintolage_give(&state, &all, stray) == BINTOLAGE_OTHER_FEATURE);
     check("which changes no state", memcmp(&state, &before, sizeof state) == 0);
-    check("an event of the same", bintolage_give(&state, &all, given) == BINTOLAGE_DONE);
+    check("one behind others", bintolage_give_many(&state, &all, two, 2, &taken) == BINTOLAGE_OTHER_FEATURE && taken == 1);
+    check("which leaves the number", holds(&state, 1, feature));
     check("a finish keeps it", bintolage_finish_feature(&state, &all) == BINTOLAGE_DONE && holds(&state, 1, feature));
     check("a next lets it go", bintolage_next_feature(&state, &all) == BINTOLAGE_DONE && holds(&state, 0, 0));
     check("another feature", bintolage_give(&state, &all, stray) == BINTOLAGE_DONE && holds(&state, 1, feature + 1));

@@ -242,8 +242,9 @@ extern "C" {
  *     3       the feature's number that is held, 0 where none is
  *     4..15   start and count of the pending list in each pool: xy, ends, z, m, t, tm
  * Any words are accepted as a state. Where word 0 says that no number is held, word 3 is not looked at, and the top four
- * bits of word 0 never are; a call that is done writes them as 0. On a refusal the words stay as they were, bit for bit. The
- * property bytes of a feature, of which the caller wants the length, are the first words[2] of the buffer.
+ * bits of word 0 never are; a call that is done writes those bits as 0, and word 3 as above. On a refusal the words stay as
+ * they were, bit for bit. The property bytes of a feature, of which the caller wants the length, are the first words[2] of
+ * the buffer.
  */
 #define BINTOLAGE_STATE_WORDS        16
 
@@ -333,8 +334,8 @@ uint8_t bintolage_next(
  * Reads the tree whose root is record 0, as event records from the start of `log`, and says in `count` how many, refused
  * or not. `declared` is the type to read the root under, 0 for its own. `flags` says which of z, m, t and tm are wanted, by
  * the present bits of an event; higher bits are not looked at. With no flag every pair is kind 64, with any it is kind 65.
- * `feature` is the number that every record says, and changes nothing else; what was written has none of its own. The table
- * must have a whole number of records. Refused: 1, 2, 3, 4, 7, 8, 9, 10, 13.
+ * `feature` is the number that every record says, and changes nothing else; the tree itself holds no number. The table must
+ * have a whole number of records. Refused: 1, 2, 3, 4, 7, 8, 9, 10, 13.
  */
 uint8_t bintolage_read(
     const uint8_t *table, size_t table_bytes,

@@ -61,10 +61,11 @@ def first_refusals(events):
 
 
 def answers_behind(events):
-    """What an event is answered that was refused with 17 and is given again, under the number in hand and on the same memory."""
+    """The kind of an event that was refused with 17 and is given again, under the number in hand and on the same memory; and what it is
+    answered then."""
     for given, again in zip(events, events[1:]):
         if given.number == OTHER_FEATURE and again.event == under(given.in_hand, given.event) and again.call.lent == given.call.lent:
-            yield again.number
+            yield again.event[0], again.number
 
 
 def numbers_behind_next(row):
@@ -95,7 +96,7 @@ def shown_of_events(events, name):
     yield f"{name} of another feature", HEADS, map(head_of, others)
     yield f"{name} that puts its feature in hand", HEADS, map(head_of, first)
     yield f"{name} of the feature in hand", HEADS, map(head_of, more)
-    yield f"{name} of another feature, by the bytes that differ", [(0,), (1,), (2,), (3,), (1, 2, 3)], map(apart, others)
+    yield f"{name} of another feature, by the bytes that differ", [(0,), (1,), (2,), (3,), (2, 3), (0, 1, 2), (1, 2, 3)], map(apart, others)
     yield f"{name} of another feature, after the one in hand", [(0, 1), (1, 0), (0, TOP), (TOP, 0)], \
         [(given.in_hand, feature_of(given.event)) for given in others]
     yield f"{name} that puts its feature in hand, by number", (0, 1, TOP), [feature_of(given.event) for given in first]
@@ -115,7 +116,9 @@ def shown(rows):
         yield from shown_of_events([given for events in by_row for given in events if given.call.what == what], name)
     yield "refusal of an event that then puts no feature in hand", (MIXED, MALFORMED, NO_ROOM, NOT_ITS_TURN), \
         [number for events in by_row for number in first_refusals(events)]
-    yield "answer that 17 comes before", (DONE, MIXED, NO_ROOM), [number for events in by_row for number in answers_behind(events)]
+    yield "answer that 17 comes before, to an event of a kind", \
+        [(4, MIXED), *((kind, number) for kind in (2, 3, 34, 35, 64, 65) for number in (DONE, NO_ROOM))], \
+        [answer for events in by_row for answer in answers_behind(events)]
     yield "run of one kind before an event of another feature", [(kind, taken) for kind in (64, 65) for taken in range(6)], \
         [run_before(call) for _, call in calls if call.what == EVENTS and call.number == OTHER_FEATURE]
     yield "call that is done and keeps the number", (PROPERTY, FINISH), \

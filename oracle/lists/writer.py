@@ -477,7 +477,9 @@ def wild_event():
     return ev(kind, tagged=pick.randrange(2) if kind % 32 in TAGGED_TYPES else 0, idx=pick.randrange(3))
 
 
-def malformed_event():
+def stray_event():
+    """An event that is malformed: of another length, with a spare byte that is set, or of no kind. Or one of another feature, where the
+    byte that is changed is of its number."""
     event = bytearray(wild_event())
     how = pick.randrange(4)
     if how == 0:
@@ -568,7 +570,7 @@ def wild_rows(count, calls, tight):
             elif chance < (0.55 if row.writer.waiting else 0.12):
                 row.finish(lent)
             else:
-                row.event(malformed_event() if pick.random() < 0.03 else wild_event(), lent)
+                row.event(stray_event() if pick.random() < 0.03 else wild_event(), lent)
         yield row
 
 
@@ -586,9 +588,12 @@ def leftover_rows():
         yield row
 
 
+# Lent memory that is less than a feature with parts uses.
+SHORT = (1, 63, 1, 1, 1, 1, 1, 1)
+
+
 def order_rows():
     """Every set of reasons to refuse, at each call."""
-    short = (1, 63, 1, 1, 1, 1, 1, 1)
     for waiting, malformed, mixed, cut in itertools.product((0, 1), repeat=4):
         row = Row(3)
         row.events([begin(3, tagged=1), pair(15), end(2), ev(35), pair(15), end(2)])
@@ -596,9 +601,9 @@ def order_rows():
             row.finish()
         event = bytearray(begin(4) if mixed else pair(15))
         event[3] = malformed
-        row.event(bytes(event), short if cut else None)
-        row.finish(short if cut else None)
-        row.next(short if cut else None)
+        row.event(bytes(event), SHORT if cut else None)
+        row.finish(SHORT if cut else None)
+        row.next(SHORT if cut else None)
         row.next()
         yield row
 
@@ -782,10 +787,9 @@ def open_rows():
 
 # Rows about the numbers of features.
 
-# A number, and another: they differ in one byte, in all, or in all but the lowest.
+# A number, and another: they differ in one byte, in all, in all but the lowest or the highest, or in the two higher ones.
 APART = ((0, 1), (1, 0), (0, TOP), (TOP, 0), (7, 7 + 256), (7 + 256, 7), (7, 7 + 65536), (7, 7 + 2**24), (2**24, 0), (TOP, 255),
-         (0x04030201, 0x01020304))
-SHORT = (1, 63, 1, 1, 1, 1, 1, 1)
+         (0x04030201, 0x01020304), (7, 0x01010007), (0x01000000, 0x01030201))
 
 
 def every_event():
@@ -816,17 +820,18 @@ def number_order_rows():
     """Every set of reasons to refuse an event, another number among them, with a feature in hand and with none; then the same event under
     the number in hand, and pairs under a third one and that one: what was refused has put no feature in hand."""
     held, other, third = 7, 9, 8
-    for has_number, waiting, malformed, differs, mixed, cut in itertools.product((0, 1), repeat=6):
+    # The first mixes the types.
+    asked = (begin(4), pair(15), pair(), begin(3, tagged=1), begin(2), end(2), ev(35))
+    for event, (has_number, waiting, malformed, differs, cut) in itertools.product(asked, itertools.product((0, 1), repeat=5)):
         row = Row(3)
         if has_number:
-            for event in (begin(3, tagged=1), pair(15), end(2), ev(35), pair(15), end(2)):
-                row.given(under(held, event))
+            for taken in (begin(3, tagged=1), pair(15), end(2), ev(35), pair(15), end(2)):
+                row.given(under(held, taken))
         if waiting:
             row.finish()
-        event = bytearray(begin(4) if mixed else pair(15))
-        event[3] = malformed
+        given = event[:3] + bytes([malformed]) + event[4:]
         for feature in (other, held) if differs else (held,):
-            row.given(under(feature, bytes(event)), SHORT if cut else None)
+            row.given(under(feature, given), SHORT if cut else None)
         if waiting:
             row.next()
         for feature in (third, held, third):

@@ -20,7 +20,7 @@ pub struct Boxed {
 impl Tree<'_> {
     /// Reads the tree as event records from the log's start, under a declared type or, with 0, the root's own. `flags` says
     /// which of z, m, t and tm are wanted; with any, every pair is a coordinate. `feature` is the number that every record
-    /// says, so that what is left of a log can take the next feature. Refused: 1, 2, 3, 4, 7, 8, 9, 10, 13.
+    /// says, by which it is found again in a log that has several features. Refused: 1, 2, 3, 4, 7, 8, 9, 10, 13.
     pub fn read(&self, declared: u8, flags: u8, feature: u32, log: &mut [u8]) -> Read {
         let mut count = 0;
         let number = bare::read(*self, declared, flags, feature, log, &mut count);

@@ -113,10 +113,12 @@ fn another_number_in_refused_events_alone_changes_nothing() {
     let mut room = Room::of(2, 8);
     let mut state = State::start(ty::LINE_STRING, false, false);
     let events = line(true, 0, &pairs(3));
+    let stray = Event::begin(OTHER, ty::POLYGON, true, 1, 0);
+    let mut due = Refusal::TypesMixed;
     for event in &events {
-        let refused = Event { feature: OTHER, ..Event::begin(0, ty::POLYGON, true, 1, 0) };
-        assert!(room.write(&mut state, &[refused]).is_err());
+        refuses(state, &mut room, stray, due);
         room.write(&mut state, &[*event]).unwrap();
+        due = Refusal::OtherFeature;
     }
     state.finish(&mut room.memory()).unwrap();
     assert_eq!(room.read(ty::LINE_STRING, 0).1, events);
@@ -135,6 +137,13 @@ fn its_place_among_the_refusals() {
     refuses(state, &mut room, pair, Refusal::NoRoom);
     refuses(state, &mut room, other(pair), Refusal::OtherFeature);
     refuses(state, &mut room, Event { tagged: true, ..other(pair) }, Refusal::Malformed);
+    let mut none = Room::of(0, 0);
+    for tagged in [true, false] {
+        for event in [Event::begin(FEATURE, ty::LINE_STRING, tagged, 1, 0), Event::end(FEATURE, ty::LINE_STRING, tagged, 0)] {
+            refuses(state, &mut none, event, Refusal::NoRoom);
+            refuses(state, &mut none, other(event), Refusal::OtherFeature);
+        }
+    }
     state.finish(&mut room.memory()).unwrap();
     refuses(state, &mut room, other(pair), Refusal::NotItsTurn);
     refuses(state, &mut room, pair, Refusal::NotItsTurn);

@@ -175,7 +175,7 @@ something-said feature s rest e L number M q room said =
 
 pub reads-nothing : (n : ℕ) (L : List ℕ) (number : ℕ) (M : List ℕ) → 1 ≤ roomOf 64 L
     → (let k = finishedMem (started 3 false false) n (blank 1 8 1) (polygon (four ∷ [])) in Said (events n) (readS noFlags (recordWith (k .table) (k .pools)) 3) L number 0 M) → ⊥
-reads-nothing n L number M room said = something-said n _ _ _ L number M (b1 n .1) room said
+reads-nothing n L number M room said = something-said n _ _ _ L number M (b1 n .1 .script) room said
 
 -- ---- a record count that isn't the log's
 pub another-count : (F : Flags) (feature : ℕ) (table : List ℕ) (P : Pools) (declared : ℕ) (L : List ℕ) (number count another : ℕ) (M : List ℕ)

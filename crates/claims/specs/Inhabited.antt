@@ -290,7 +290,7 @@ stops =
     let state : stateOf declared-point ≡ started 1 false false = state-words (started 1 false false) (started-bytes 1 false false (omega arith)) in
     (rw state (four-given .0), rw (state, four-given .1) (ap tookAll three-heard), call (many records) (start (lends (blank 0 2 0) []) (omega arith)))
 
--- ---- the same three under number 258, and then a pair under number 2, which agrees with it in the low byte alone: it is refused with 17
+-- ---- the same three under number 258, and then a pair under number 2, which agrees with it in the low byte: it is refused with 17
 pub two-features : List ℕ
 two-features = bytesOf (events 258) point-events ++ events 2 .bytes (xyE 5 6 1)
 

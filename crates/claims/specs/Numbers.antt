@@ -1,4 +1,4 @@
--- SPEC 6.28, 11.22, over any row of the calls that a machine links: the number that is in hand is that of the event that was accepted last, none at first and after next; and every accepted event since then has it.
+-- SPEC 6.28, 11.22, over any row of the calls that a machine links: the number that is in hand is that of the event that was accepted last, none at first and after next; and every event that was accepted since start or the last next has it.
 use mathlib.Core.Path.{_≡_, refl, sym, ap, _∙_}
 use mathlib.Core.Bool.{Bool, true, false, cond}
 use mathlib.Core.List.{List, [], _∷_, _++_}

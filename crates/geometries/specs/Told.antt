@@ -3,11 +3,9 @@ use mathlib.Core.Path.{_≡_, refl, ap, _∙_}
 use mathlib.Core.List.{List, [], _∷_, _++_}
 use Prim.Native.Nat.{ℕ, zero, suc, _*_, _≤_}
 use lib.ListN.{length, drop}
-use lib.Seq.{take-all}
-use borrow.Author.Tests.{le-leb}
 use Rattle.laws.specs.Script.{Script, stop, say, _⨟_, Format}
 use Rattle.laws.specs.Framed.{framed, seq-seq}
-use Rattle.laws.specs.Cut.{recordsOf, numberOf, roomOf, bytesOf, Said}
+use Rattle.laws.specs.Cut.{recordsOf, numberOf, roomOf, bytesOf, Said, said-whole}
 
 module _ {A : Type 0} where
   abbrev pub told : List A → Script A
@@ -43,9 +41,9 @@ module _ {A : Type 0} where
   pub said-complete : (F : Format A) (s : Script A) (l : List A) (L : List ℕ) (number count : ℕ) (M : List ℕ) → s ≡ told l → length l ≤ roomOf (F .wide) L → Said F s L number count M → Complete F l L number count M
   said-complete F s l L number count M e room said =
       let records : recordsOf s ≡ l = rw e (told-records l) in
-      let count-is : count ≡ length l = said .count-is ∙ rw (records, take-all (roomOf (F .wide) L) l room) in
+      let whole = said-whole F s L number count M (rw records room) said in
       record {
-        number-is = said .number-is ∙ rw (records, le-leb (length l) (roomOf (F .wide) L) room, e) (told-number l);
-        count-is = count-is;
-        log-is = said .log-is ∙ rw (records, take-all (roomOf (F .wide) L) l room, count-is);
+        number-is = whole .number-is ∙ ap numberOf e ∙ told-number l;
+        count-is = whole .count-is ∙ ap length records;
+        log-is = whole .log-is ∙ ap (λ (k : List A). bytesOf F k ++ drop (F .wide * length k) L) records;
       }

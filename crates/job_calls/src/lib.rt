@@ -13,7 +13,7 @@ use job_steps::event_of;
 use kinds::flags::Flags;
 use lookup::look_up;
 pub use reply::Reply;
-use reply::numbered;
+use reply::answered;
 use write::write;
 
 pub const TABLE_BYTES: usize = 262144;
@@ -70,5 +70,5 @@ pub fn ask(
         );
     }
     let event = event_of(work.events, sent);
-    numbered(write(stage, state, event, table, xy, ends, z, m, t, tm))
+    answered(write(stage, state, event, table, xy, ends, z, m, t, tm))
 }

@@ -12,7 +12,7 @@ pub struct Reply {
     pub bbox: Box,
 }
 
-pub fn numbered(number: u8) -> Reply {
+pub fn answered(number: u8) -> Reply {
     Reply {
         number,
         count: 0,

@@ -7,9 +7,9 @@ use native.Mathlib.Omega.{arith}
 use native.Mathlib.Numerals.{add-one}
 use native.Mathlib.Nat.{le-div-iff-mul-le, mul-comm, mul-suc, mul-add, mul-zero}
 use lib.ListN.{length, take, drop, take-append-drop, length-take}
-use lib.Seq.{take-nil, length-sets, drop-drop}
+use lib.Seq.{take-nil, take-all, length-sets, drop-drop}
 use lib.Dec.{ltb, leb, leb·zero, leb·suc-zero, leb·suc-suc}
-use borrow.Author.Tests.{lt-ltb, le-ltb, ltb-true}
+use borrow.Author.Tests.{lt-ltb, le-ltb, ltb-true, le-leb}
 use Rattle.laws.specs.Runs.{take-sets, drop-sets}
 use Rattle.laws.specs.Script.{Script, stop, say, out, Format, roomAt, put, run}
 
@@ -127,4 +127,20 @@ module _ {A : Type 0} (F : Format A) where
         number-is = cc;
         count-is = k ∙ n;
         log-is = rw k (let f : M ≡ written L 0 rs = cc in f ∙ written-is rs L 0 (rw n (room-fits L (length rs) short)) ∙ rw (mul-zero (F .wide)));
+      }
+
+  -- from a log with room for all of it: the script's own number, every record, and the rest of the log untouched
+  pub record Whole (s : Script A) (L : List ℕ) (number count : ℕ) (M : List ℕ) : Type 0 where
+    pub number-is : number ≡ numberOf s
+    pub count-is : count ≡ length (recordsOf s)
+    pub log-is : M ≡ bytesOf (recordsOf s) ++ drop (F .wide * length (recordsOf s)) L
+
+  pub said-whole : (s : Script A) (L : List ℕ) (number count : ℕ) (M : List ℕ) → length (recordsOf s) ≤ roomOf (F .wide) L → Said s L number count M → Whole s L number count M
+  said-whole s L number count M room said =
+      let all : take (roomOf (F .wide) L) (recordsOf s) ≡ recordsOf s = take-all (roomOf (F .wide) L) (recordsOf s) room in
+      let count-is : count ≡ length (recordsOf s) = said .count-is ∙ rw all in
+      record {
+        number-is = said .number-is ∙ rw (le-leb (length (recordsOf s)) (roomOf (F .wide) L) room);
+        count-is = count-is;
+        log-is = said .log-is ∙ rw (all, count-is);
       }

@@ -9,14 +9,12 @@ ghost use Rattle.runs.specs.Plain.{blockedNumber};
 pub fn blocked_number(s: State, n: u32) -> u8
     ensures { λ r. ⌜ r ≡ blockedNumber s n ⌝ }
 {
-    let feature = s.feature;
-    let own = belongs(feature, n);
     if s.waiting {
         return refusal::NOT_ITS_TURN;
     }
-    if own {
-        refusal::NO_ROOM
-    } else {
-        refusal::OTHER_FEATURE
+    let feature = s.feature;
+    if !belongs(feature, n) {
+        return refusal::OTHER_FEATURE;
     }
+    refusal::NO_ROOM
 }

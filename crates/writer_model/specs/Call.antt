@@ -32,7 +32,7 @@ afterCall w (eventC bytes) = hears w (heard bytes)
 afterCall w finishC = finish w
 afterCall w nextC = next w
 
--- the number with which a writer that has a feature in hand refuses what it hears under number n, but for want of room
+-- the number with which a writer that has f in hand, or no feature, refuses what it hears under number n, but for want of room
 abbrev pub nayHeard : Feature → ℕ → Writer → Parsed → ℕ
 nayHeard f n w Malformed = 11
 nayHeard f n w (WellFormed e) = cond (waits w) 15 (cond (belongs f n) (nay w e) 17)

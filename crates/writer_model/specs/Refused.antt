@@ -1,4 +1,4 @@
--- A refused call changes nothing, and is refused with the number of the lists' writer or for want of room.
+-- A refused call changes nothing, and is refused with the number of the lists' writer, for the feature in hand, or for want of room.
 use mathlib.Core.Path.{_≡_, refl, sym, ap, _∙_}
 use mathlib.Core.Bool.{Bool, true, false, cond}
 use Prim.Native.Nat.{ℕ, _+_}

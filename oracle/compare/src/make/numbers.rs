@@ -13,7 +13,7 @@ pub fn number(code: usize) -> u32 {
 }
 
 /// Two different ones.
-const PAIRS: [(u32, u32); 5] = [(0, 1), (1, 0), (u32::MAX, 0), (0x0403_0201, 0x8403_0201), (0, 1 << 16)];
+const PAIRS: [(u32, u32); 6] = [(0, 1), (1, 0), (u32::MAX, 0), (0x0403_0201, 0x8403_0201), (0, 1 << 16), (7, 0x107)];
 
 /// Puts a number into every event: `number_of` is asked by how many events and how many nexts came before it.
 pub fn put_numbers(calls: &mut [Call], mut number_of: impl FnMut(usize, usize) -> u32) {
