@@ -1,5 +1,5 @@
--- A call amid its records: what is left to do, from the state and the memory as they are, comes to what the call comes to.
-use mathlib.Core.Path.{_≡_, refl, sym, ap, _∙_}
+-- A call amid its records, which are of one feature: what is left to do, from the state and the memory as they are, comes to what the call comes to.
+use mathlib.Core.Path.{_≡_, refl, sym, ap, subst, _∙_}
 use mathlib.Core.Bool.{Bool, true, false, cond}
 use mathlib.Core.List.{List}
 use Prim.Native.Nat.{ℕ, suc, _+_, _-_, _*_, _/_, _%_, _≤_, _<_}
@@ -18,44 +18,51 @@ use Rattle.runs.specs.declared.took.Took.{Took}
 use Rattle.pending.specs.declared.words.Pending.{Pending}
 use Rattle.writing.specs.declared.state.State.{State}
 use Rattle.writing.specs.declared.state.Wrote.{Wrote}
-use Rattle.writing.specs.declared.feature.Feature.{Feature}
-use Rattle.writing.specs.Feature.{belongs}
-use Rattle.writing.specs.State.{Mem, Outcome, outcome, wrote}
+use Rattle.writing.specs.declared.feature.Feature.the-variants.{Numbered}
+use Rattle.writing.specs.State.{Mem, withFeature, withPending, Outcome, outcome, wrote}
 use Rattle.writing.specs.Calls.{isReady, eventCall}
 use Rattle.writing.specs.Apart.{is-ready, was-ready}
 use Rattle.writing.specs.Ends.{malformed}
 use Rattle.runs.specs.Events.{recordOf, recordsIn, Progress, took, progress, eventsFrom, eventsCall, none-left, went-on, stopped}
-use Rattle.runs.specs.Plain.{blockedNumber, amid}
+use Rattle.runs.specs.Plain.{blockedBy, amid}
 use Rattle.writing.specs.Ready.{same-ready, event-ready}
 use Rattle.writing.specs.Refused.{event-unchanged}
 use Rattle.runs.specs.Run.{Values, memWith, Run, BlockedAt}
 
-pub record Going (bytes : List ℕ) (s₀ : State) (k₀ : Mem) (ready : Bool) (taken : ℕ) (s : State) (k : Mem) : Type 0 where
+pub record Going (bytes : List ℕ) (held : ℕ) (s₀ : State) (k₀ : Mem) (ready : Bool) (taken : ℕ) (s : State) (k : Mem) : Type 0 where
+  pub in-hand : s .feature ≡ Numbered held
   pub within : taken ≤ length bytes / 64
   pub table : length (k .table) ≡ length (k₀ .table)
   pub pools : lentOf (k .pools) ≡ lentOf (k₀ .pools)
   pub tells : isReady s (recordsLent (k .table)) (lentOf (k .pools)) ≡ ready
   pub rest : eventsFrom (recordsIn bytes - taken) taken bytes s k ≡ eventsCall s₀ k₀ bytes
 
-pub begun : (bytes : List ℕ) (s : State) (k : Mem) {records : ℕ} {pools : Lent} {ready : Bool} → records ≡ recordsLent (k .table) → pools ≡ lentOf (k .pools) → ready ≡ isReady s records pools → Going bytes s k ready 0 s k
+pub begun : (bytes : List ℕ) {held : ℕ} (s : State) (k : Mem) {records : ℕ} {pools : Lent} {ready : Bool} → s .feature ≡ Numbered held → records ≡ recordsLent (k .table) → pools ≡ lentOf (k .pools) → ready ≡ isReady s records pools → Going bytes held s k ready 0 s k
 unfolding eventsCall
-begun bytes s k records words tells =
+begun bytes s k in-hand records words tells =
     let all : recordsIn bytes - 0 ≡ recordsIn bytes = omega arith in
-    record { within = omega arith; table = refl; pools = refl; tells = sym (tells ∙ (λ i. isReady s (records i) (words i))); rest = ap (λ (n : ℕ). eventsFrom n 0 bytes s k) all }
+    record { in-hand = in-hand; within = omega arith; table = refl; pools = refl; tells = sym (tells ∙ (λ i. isReady s (records i) (words i))); rest = ap (λ (n : ℕ). eventsFrom n 0 bytes s k) all }
 
--- ---- a run of plain events
-pub at-run : {bytes : List ℕ} {s₀ : State} {k₀ : Mem} {ready : Bool} {from : ℕ} {s : State} {table ends : List ℕ} {v : Values} {taken : ℕ} {f : Feature} {p : Pending} {v′ : Values}
-    → Going bytes s₀ k₀ ready from s (memWith table ends v) → Run bytes ready from (s .feature) (s .pending) v taken f p v′ → Going bytes s₀ k₀ ready taken (amid s f p) (memWith table ends v′)
-at-run {s} {table} {ends} so-far run =
+-- ---- a run of plain events: a state that has the feature in hand is that of the run
+as-amid : (s : State) {held : ℕ} (p : Pending) → s .feature ≡ Numbered held → withPending s p ≡ amid s held p
+as-amid s p is = λ i. withPending (withFeature s (is i)) p
+
+pub at-run : {bytes : List ℕ} {held : ℕ} {s₀ : State} {k₀ : Mem} {ready : Bool} {from : ℕ} {s : State} {table ends : List ℕ} {v : Values} {taken : ℕ} {p : Pending} {v′ : Values}
+    → Going bytes held s₀ k₀ ready from s (memWith table ends v) → Run bytes ready held from (s .pending) v taken p v′ → Going bytes held s₀ k₀ ready taken (withPending s p) (memWith table ends v′)
+at-run {bytes} {held} {from} {s} {table} {ends} {v} {taken} {p} {v′} so-far run =
     record {
+      in-hand = so-far .in-hand;
       within = run .within;
       table = so-far .table;
       pools = (λ i. record { xy = run .long-xy i; ends = length ends; z = run .long-z i; m = run .long-m i; t = run .long-t i; tm = run .long-tm i }) ∙ so-far .pools;
       tells = run .still s table ends (so-far .tells);
-      rest = run .rest s table ends (so-far .tells) ∙ so-far .rest;
+      rest = ap (λ (t : State). eventsFrom (recordsIn bytes - taken) taken bytes t (memWith table ends v′)) (as-amid s p (so-far .in-hand))
+          ∙ run .rest s table ends (so-far .tells)
+          ∙ ap (λ (t : State). eventsFrom (recordsIn bytes - from) from bytes t (memWith table ends v)) (sym (as-amid s (s .pending) (so-far .in-hand)))
+          ∙ so-far .rest;
     }
 
-module _ {bytes : List ℕ} {s₀ : State} {k₀ : Mem} {ready : Bool} {taken : ℕ} {s : State} {k : Mem} (so-far : Going bytes s₀ k₀ ready taken s k) where
+module _ {bytes : List ℕ} {held : ℕ} {s₀ : State} {k₀ : Mem} {ready : Bool} {taken : ℕ} {s : State} {k : Mem} (so-far : Going bytes held s₀ k₀ ready taken s k) where
   -- ---- a record that is left: it is refused, or taken
   module _ (more-left : taken < recordsIn bytes) {r : Wrote} {k′ : Mem} (is : outcome r k′ ≡ eventCall s k (recordOf bytes taken)) where
     all : eventsFrom (suc (recordsIn bytes - (taken + 1))) taken bytes s k ≡ eventsCall s₀ k₀ bytes
@@ -67,11 +74,12 @@ module _ {bytes : List ℕ} {s₀ : State} {k₀ : Mem} {ready : Bool} {taken : 
         let kept : k′ ≡ k = ap (λ (o : Outcome). o .mem) (is ∙ unchanged) in
         ap (progress (took (r .number) taken s)) kept ∙ stopped (recordsIn bytes - (taken + 1)) taken bytes s k is no-more ∙ all
 
-    pub at-taken : r .number ≡ 0 → taken + 1 ≤ length bytes / 64 → length (k′ .table) ≡ length (k .table) → lentOf (k′ .pools) ≡ lentOf (k .pools) → Going bytes s₀ k₀ ready (taken + 1) (r .state) k′
-    at-taken ok within table pools =
+    pub at-taken : r .number ≡ 0 → taken + 1 ≤ length bytes / 64 → length (k′ .table) ≡ length (k .table) → lentOf (k′ .pools) ≡ lentOf (k .pools) → r .state .feature ≡ Numbered held → Going bytes held s₀ k₀ ready (taken + 1) (r .state) k′
+    at-taken ok within table pools in-hand =
         let accepted = ap (λ (o : Outcome). o .wrote .number) (sym is) ∙ ok in
         let then-ready = event-ready s k (recordOf bytes taken) accepted in
         record {
+          in-hand = in-hand;
           within = within;
           table = table ∙ so-far .table;
           pools = pools ∙ so-far .pools;
@@ -97,12 +105,14 @@ module _ {bytes : List ℕ} {s₀ : State} {k₀ : Mem} {ready : Bool} {taken : 
           let short : length (recordOf bytes taken) ≡ 64 → ⊥ = λ long. some (omega (arith, long, end, length-take 64 (drop (64 * taken) bytes), length-drop (64 * taken) bytes)) in
           at-malformed (omega (arith, some, end)) (not-whole (recordOf bytes taken) short)
 
-pub at-blocked : {bytes : List ℕ} {s₀ : State} {k₀ : Mem} {ready : Bool} {taken : ℕ} {n : ℕ} {s : State} {table ends : List ℕ} {v : Values}
-    → Going bytes s₀ k₀ ready taken s (memWith table ends v) → BlockedAt bytes ready taken n (s .feature) (s .pending) v → progress (took (blockedNumber s n) taken s) (memWith table ends v) ≡ eventsCall s₀ k₀ bytes
-at-blocked {n} {s} {table} {ends} so-far stop =
-    at-refused so-far (omega (arith, stop .more-left)) (stop .answers s table ends (so-far .tells)) (refuses (s .waiting) (belongs (s .feature) n))
+pub at-blocked : {bytes : List ℕ} {held : ℕ} {s₀ : State} {k₀ : Mem} {ready : Bool} {taken : ℕ} {own : Bool} {s : State} {table ends : List ℕ} {v : Values}
+    → Going bytes held s₀ k₀ ready taken s (memWith table ends v) → BlockedAt bytes ready held taken own (s .pending) v → progress (took (blockedBy (s .waiting) own) taken s) (memWith table ends v) ≡ eventsCall s₀ k₀ bytes
+at-blocked {bytes} {taken} {own} {s} {table} {ends} {v} so-far stop =
+    at-refused so-far (omega (arith, stop .more-left))
+    (subst (λ (t : State). outcome (wrote (blockedBy (s .waiting) own) t) (memWith table ends v) ≡ eventCall t (memWith table ends v) (recordOf bytes taken)) (sym (as-amid s (s .pending) (so-far .in-hand))) (stop .answers s table ends (so-far .tells)))
+    (refuses (s .waiting) own)
   where
-    refuses : (waiting own : Bool) → _≡_ {A = ℕ} (cond waiting 15 (cond own 12 17)) 0 → ⊥
+    refuses : (waiting own : Bool) → _≡_ {A = ℕ} (blockedBy waiting own) 0 → ⊥
     refuses true own h = omega (arith, h)
     refuses false true h = omega (arith, h)
     refuses false false h = omega (arith, h)

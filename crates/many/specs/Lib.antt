@@ -1,2 +1,3 @@
 pub mod OtherCall
 pub mod Going
+pub mod Held

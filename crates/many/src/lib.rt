@@ -1,20 +1,18 @@
 // Many events in one call.
-use frames::take_other;
-use kinds::geometry::Lent;
-use kinds::refusal;
-use log::rest_number;
-use runs::Stop;
+mod all;
+mod held;
+
+use all::take_all;
+use held::held_by;
 use runs::Took;
-use runs::blocked_number;
-use runs::take_plain;
-use writing::ready::is_ready;
+use writing::feature::Feature;
 use writing::state::State;
 ghost use mathlib.Core.Path.{_≡_};
 ghost use Rattle.writing.specs.State.{memOf};
 ghost use Rattle.runs.specs.Events.{progress, eventsCall};
 
-// Takes events' records up to the first that is refused: runs of plain events, and between them the others one by one.
-// Refused: 11, 15, 17, 5, 12.
+// Takes events' records up to the first that is refused. All are to be of one feature, which is in hand for them: so none of them
+// asks whether one is. Where nothing is taken, the state stays as it was. Refused: 11, 15, 17, 5, 12.
 pub fn events(
     s: State,
     bytes: &[u8],
@@ -31,57 +29,16 @@ pub fn events(
         let after = memOf (now (table .exit)) (now (xy .exit)) (now (ends .exit)) (now (z .exit)) (now (m .exit)) (now (t .exit)) (now (tm .exit)) in
         ⌜ progress r after ≡ eventsCall s before (now (bytes .entry)) ⌝ }
 {
-    let pools = Lent::new(xy.len(), ends.len(), z.len(), m.len(), t.len(), tm.len());
-    let records = store::records_lent(table);
-    let ready = is_ready(s, records, pools);
-    let mut state = s;
-    let mut taken = 0;
-    loop {
-        let held = state.feature;
-        let run = take_plain(bytes, taken, ready, held, state.pending, xy, z, m, t, tm);
-        let feature = run.feature;
-        let pending = run.pending;
-        state = state.with_feature(feature);
-        state.pending = pending;
-        taken = run.taken;
-        let stop = run.stop;
-        match stop {
-            Stop::End => {
-                return Took {
-                    number: rest_number(bytes.len()),
-                    taken,
-                    state,
-                };
-            }
-            Stop::Blocked { feature: n } => {
-                return Took {
-                    number: blocked_number(state, n),
-                    taken,
-                    state,
-                };
-            }
-            Stop::Malformed => {
-                return Took {
-                    number: refusal::MALFORMED,
-                    taken,
-                    state,
-                };
-            }
-            Stop::Other {
-                event: e,
-                feature: n,
-            } => {
-                let wrote = take_other(state, n, ready, e, table, ends);
-                if wrote.number != refusal::DONE {
-                    return Took {
-                        number: wrote.number,
-                        taken,
-                        state,
-                    };
-                }
-                state = wrote.state;
-                taken += 1;
-            }
-        }
+    let feature = s.feature;
+    let held = held_by(feature, bytes);
+    let opened = s.with_feature(Feature::Numbered(held));
+    let took = take_all(opened, held, bytes, table, xy, ends, z, m, t, tm);
+    if took.taken == 0 {
+        return Took {
+            number: took.number,
+            taken: 0,
+            state: s,
+        };
     }
+    took
 }

@@ -18,7 +18,6 @@ use Rattle.asking.specs.declared.ask.Ask.{Ask}
 use Rattle.asking.specs.declared.set_type.Typed.{Typed}
 use Rattle.asking.specs.declared.set_type.Typed.the-variants.{Set}
 use Rattle.writing.specs.declared.state.State.{State}
-use Rattle.writing.specs.declared.feature.Feature.{Feature}
 use Rattle.writing.specs.declared.feature.Feature.the-variants.{Numbered}
 use Rattle.pending.specs.declared.words.Pending.{Pending}
 use Rattle.writing.specs.Feature.{belongs}
@@ -32,13 +31,17 @@ use Rattle.pending.specs.Growth.{grownAll}
 abbrev pub plain : State → Added → Ask
 plain s added = ask (Set (s .typing)) added false
 
--- why it is refused under number n, where it is: it is not its turn, it is of another feature, or there is no room
-abbrev pub blockedNumber : State → ℕ → ℕ
-blockedNumber s n = cond (s .waiting) 15 (cond (belongs (s .feature) n) 12 17)
+-- why an event is refused, of the feature in hand or not: it is not its turn, it is of another feature, or there is no room
+abbrev pub blockedBy : Bool → Bool → ℕ
+blockedBy waiting own = cond waiting 15 (cond own 12 17)
 
--- a state amid a run: what is in hand and pending may be another's, and all else stays
-abbrev pub amid : State → Feature → Pending → State
-amid s f p = withPending (withFeature s f) p
+-- why a plain one is refused under number n, where it is
+abbrev pub blockedNumber : State → ℕ → ℕ
+blockedNumber s n = blockedBy (s .waiting) (belongs (s .feature) n)
+
+-- a state amid a run: which feature is in hand and what is pending may be another's, and all else stays
+abbrev pub amid : State → ℕ → Pending → State
+amid s held p = withPending (withFeature s (Numbered held)) p
 
 -- ---- bytes that are an event which asks, in every state, for such words and no more
 pub record PlainEvent (bytes : List ℕ) (added : Added) (e : Event) : Type 0 where
@@ -79,13 +82,13 @@ quiet-plain h = record { is = h .is; asks = λ s. quiet-asks s (h .event) (h .qu
 -- ---- its answer, from the test of readiness and the test of what it adds
 module _ (s : State) (n : ℕ) (added : Added) (records : ℕ) (pools : Lent) (ready test : Bool) (tells : isReady s records pools ≡ ready) (apart : hasRoom (s .pending) added (recordsUsed s) records pools ≡ (hasRoom (s .pending) noWords (recordsUsed s) records pools && test)) where
   abbrev after : State
-  after = amid s (Numbered n) (grownAll (s .pending) added)
+  after = amid s n (grownAll (s .pending) added)
 
   by-room : (b : Bool) → cond b (wrote 0 after) (wrote 12 s) ≡ roomOr s b after
   by-room true = refl
   by-room false = refl
 
-  pub plain-decides : cond (belongs (s .feature) n && ready && test) (wrote 0 (amid s (Numbered n) (grownAll (s .pending) added))) (wrote (blockedNumber s n) s) ≡ decideEvent s n (plain s added) records pools
+  pub plain-decides : cond (belongs (s .feature) n && ready && test) (wrote 0 (amid s n (grownAll (s .pending) added))) (wrote (blockedNumber s n) s) ≡ decideEvent s n (plain s added) records pools
   unfolding decideEvent ifDue stateAfter
   plain-decides = by-turn (s .waiting) (belongs (s .feature) n) tells
     where

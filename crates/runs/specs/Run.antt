@@ -7,6 +7,7 @@ use native.Mathlib.Omega.{arith}
 use lib.Dec.{eqb}
 use lib.ListN.{length, take, drop}
 use lib.Seq.{sets, length-sets}
+use borrow.Author.Tests.{eqb-true}
 use Rattle.laws.specs.Every.{both}
 use Rattle.kinds.specs.Event.{WellFormed, Malformed}
 use Rattle.kinds.specs.Lanes.{xyL, endsL, zL, mL, tL, tmL}
@@ -21,8 +22,6 @@ use Rattle.runs.specs.declared.run.Reached.{Reached}
 use Rattle.runs.specs.declared.run.Stop.{Stop}
 use Rattle.runs.specs.declared.run.Stop.the-variants.{End, Blocked, Other, Malformed as Unheard}
 use Rattle.pending.specs.declared.words.Pending.{Pending}
-use Rattle.writing.specs.declared.feature.Feature.{Feature}
-use Rattle.writing.specs.declared.feature.Feature.the-variants.{Numbered}
 use Rattle.writing.specs.declared.state.State.{State}
 use Rattle.pending.specs.declared.words.Words.{Words}
 use Rattle.writing.specs.declared.state.Wrote.{Wrote}
@@ -33,9 +32,9 @@ use Rattle.asking.specs.Ask.{noWords, pairWith}
 use Rattle.pending.specs.Room.{roomIn, hasRoom, and-true, room-tested, room-apart, ValuesFit, room-in}
 use Rattle.writing.specs.Calls.{isReady, tableAfter, memAfter, eventWith, eventCall}
 use Rattle.pending.specs.Growth.{grown, grownAll, grownValues}
-use Rattle.writing.specs.Ends.{well-formed}
+use Rattle.writing.specs.Ends.{well-formed, another}
 use Rattle.runs.specs.Events.{recordOf, recordsIn, eventsFrom, went-on}
-use Rattle.runs.specs.Plain.{blockedNumber, amid, PlainEvent, pair-plain, coordinate-plain, quiet-plain, plain-decides}
+use Rattle.runs.specs.Plain.{blockedBy, blockedNumber, amid, PlainEvent, pair-plain, coordinate-plain, quiet-plain, plain-decides}
 use Rattle.writing.specs.Ready.{same-ready, event-ready}
 use Rattle.writing.specs.Apart.{is-ready}
 
@@ -160,7 +159,7 @@ refused-so s n k after = by-tests (s .waiting) (belongs (s .feature) n)
 module _ (s : State) (table ends : List ℕ) (v : Values) (xy z m t tm : Bool) (ready test : Bool) (tells : isReady s (recordsLent table) (lentWith ends v) ≡ ready) (apart : Apart (s .pending) v (valuesWith xy z m t tm) test) where
   comes-to : (bytes : List ℕ) (n : ℕ) (e : Event) → n ≡ featureIn bytes → PlainEvent bytes (valuesWith xy z m t tm) e
       → cond (belongs (s .feature) n && ready && test)
-      (outcome (wrote 0 (amid s (Numbered n) (grownAll (s .pending) (valuesWith xy z m t tm)))) (memWith table ends (pushed v (s .pending) (valuesWith xy z m t tm) e)))
+      (outcome (wrote 0 (amid s n (grownAll (s .pending) (valuesWith xy z m t tm)))) (memWith table ends (pushed v (s .pending) (valuesWith xy z m t tm) e)))
       (outcome (wrote (blockedNumber s n) s) (memWith table ends v))
       ≡ eventCall s (memWith table ends v) bytes
   unfolding eventWith memAfter tableAfter
@@ -172,9 +171,9 @@ module _ (s : State) (table ends : List ℕ) (v : Values) (xy z m t tm : Bool) (
     where
       by-tests : (b : Bool)
           → cond b
-          (outcome (wrote 0 (amid s (Numbered n) (grownAll (s .pending) (valuesWith xy z m t tm)))) (memWith table ends (pushed v (s .pending) (valuesWith xy z m t tm) e)))
+          (outcome (wrote 0 (amid s n (grownAll (s .pending) (valuesWith xy z m t tm)))) (memWith table ends (pushed v (s .pending) (valuesWith xy z m t tm) e)))
           (outcome (wrote (blockedNumber s n) s) (memWith table ends v))
-          ≡ settled (cond b (wrote 0 (amid s (Numbered n) (grownAll (s .pending) (valuesWith xy z m t tm)))) (wrote (blockedNumber s n) s)) (memWith table ends v) (memWith table ends (pushed v (s .pending) (valuesWith xy z m t tm) e))
+          ≡ settled (cond b (wrote 0 (amid s n (grownAll (s .pending) (valuesWith xy z m t tm)))) (wrote (blockedNumber s n) s)) (memWith table ends v) (memWith table ends (pushed v (s .pending) (valuesWith xy z m t tm) e))
       by-tests true = refl
       by-tests false = sym (refused-so s n (memWith table ends v) (memWith table ends (pushed v (s .pending) (valuesWith xy z m t tm) e)))
 
@@ -182,8 +181,8 @@ module _ (s : State) (table ends : List ℕ) (v : Values) (xy z m t tm : Bool) (
 pub whole-record : (bytes : List ℕ) (i : ℕ) → take (64 * i + 64 - 64 * i) (drop (64 * i) bytes) ≡ recordOf bytes i
 whole-record bytes i = let wide : 64 * i + 64 - 64 * i ≡ 64 = omega arith in ap (λ (n : ℕ). take n (drop (64 * i) bytes)) wide
 
--- ---- a run, from a record on: what is left to do comes to the same, in every state and memory that the run knows nothing of
-pub record Run (bytes : List ℕ) (ready : Bool) (from : ℕ) (f : Feature) (p : Pending) (v : Values) (taken : ℕ) (f′ : Feature) (p′ : Pending) (v′ : Values) : Type 0 where
+-- ---- a run of the events of the feature in hand, from a record on: what is left to do comes to the same, in every state and memory that the run knows nothing of
+pub record Run (bytes : List ℕ) (ready : Bool) (held from : ℕ) (p : Pending) (v : Values) (taken : ℕ) (p′ : Pending) (v′ : Values) : Type 0 where
   pub begun : from ≤ taken
   pub within : taken ≤ length bytes / 64
   pub long-xy : length (v′ .xy) ≡ length (v .xy)
@@ -191,33 +190,33 @@ pub record Run (bytes : List ℕ) (ready : Bool) (from : ℕ) (f : Feature) (p :
   pub long-m : length (v′ .m) ≡ length (v .m)
   pub long-t : length (v′ .t) ≡ length (v .t)
   pub long-tm : length (v′ .tm) ≡ length (v .tm)
-  pub still : (s : State) (table ends : List ℕ) → isReady (amid s f p) (recordsLent table) (lentWith ends v) ≡ ready → isReady (amid s f′ p′) (recordsLent table) (lentWith ends v′) ≡ ready
-  pub rest : (s : State) (table ends : List ℕ) → isReady (amid s f p) (recordsLent table) (lentWith ends v) ≡ ready
-      → eventsFrom (recordsIn bytes - taken) taken bytes (amid s f′ p′) (memWith table ends v′) ≡ eventsFrom (recordsIn bytes - from) from bytes (amid s f p) (memWith table ends v)
+  pub still : (s : State) (table ends : List ℕ) → isReady (amid s held p) (recordsLent table) (lentWith ends v) ≡ ready → isReady (amid s held p′) (recordsLent table) (lentWith ends v′) ≡ ready
+  pub rest : (s : State) (table ends : List ℕ) → isReady (amid s held p) (recordsLent table) (lentWith ends v) ≡ ready
+      → eventsFrom (recordsIn bytes - taken) taken bytes (amid s held p′) (memWith table ends v′) ≡ eventsFrom (recordsIn bytes - from) from bytes (amid s held p) (memWith table ends v)
 
 -- why it stops
-pub record BlockedAt (bytes : List ℕ) (ready : Bool) (taken n : ℕ) (f : Feature) (p : Pending) (v : Values) : Type 0 where
+pub record BlockedAt (bytes : List ℕ) (ready : Bool) (held taken : ℕ) (own : Bool) (p : Pending) (v : Values) : Type 0 where
   pub more-left : taken < length bytes / 64
-  pub answers : (s : State) (table ends : List ℕ) → isReady (amid s f p) (recordsLent table) (lentWith ends v) ≡ ready
-      → outcome (wrote (blockedNumber (amid s f p) n) (amid s f p)) (memWith table ends v) ≡ eventCall (amid s f p) (memWith table ends v) (recordOf bytes taken)
+  pub answers : (s : State) (table ends : List ℕ) → isReady (amid s held p) (recordsLent table) (lentWith ends v) ≡ ready
+      → outcome (wrote (blockedBy (s .waiting) own) (amid s held p)) (memWith table ends v) ≡ eventCall (amid s held p) (memWith table ends v) (recordOf bytes taken)
 
-abbrev pub Stopped : List ℕ → Bool → ℕ → Feature → Pending → Values → Stop → Type 0
-Stopped bytes ready taken f p v End = taken ≡ length bytes / 64
-Stopped bytes ready taken f p v (Blocked n) = BlockedAt bytes ready taken n f p v
-Stopped bytes ready taken f p v (Other e n) = (taken < length bytes / 64) × (heard (recordOf bytes taken) ≡ WellFormed e) × (e .kind < 64) × (n ≡ featureIn (recordOf bytes taken))
-Stopped bytes ready taken f p v Unheard = (taken < length bytes / 64) × (heard (recordOf bytes taken) ≡ Malformed)
+abbrev pub Stopped : List ℕ → Bool → ℕ → ℕ → Pending → Values → Stop → Type 0
+Stopped bytes ready held taken p v End = taken ≡ length bytes / 64
+Stopped bytes ready held taken p v (Blocked own) = BlockedAt bytes ready held taken own p v
+Stopped bytes ready held taken p v (Other e) = (taken < length bytes / 64) × (heard (recordOf bytes taken) ≡ WellFormed e) × (e .kind < 64) × (held ≡ featureIn (recordOf bytes taken))
+Stopped bytes ready held taken p v Unheard = (taken < length bytes / 64) × (heard (recordOf bytes taken) ≡ Malformed)
 
-pub record Ran (bytes : List ℕ) (ready : Bool) (from : ℕ) (f : Feature) (p : Pending) (v : Values) (r : Reached) (v′ : Values) : Type 0 where
-  pub run : Run bytes ready from f p v (r .taken) (r .feature) (r .pending) v′
-  pub stop : Stopped bytes ready (r .taken) (r .feature) (r .pending) v′ (r .stop)
+pub record Ran (bytes : List ℕ) (ready : Bool) (held from : ℕ) (p : Pending) (v : Values) (r : Reached) (v′ : Values) : Type 0 where
+  pub run : Run bytes ready held from p v (r .taken) (r .pending) v′
+  pub stop : Stopped bytes ready held (r .taken) (r .pending) v′ (r .stop)
 
-pub none-taken : (bytes : List ℕ) (ready : Bool) (from : ℕ) (f : Feature) (p : Pending) (v : Values) → from ≤ length bytes / 64 → Run bytes ready from f p v from f p v
-none-taken bytes ready from f p v within =
+pub none-taken : (bytes : List ℕ) (ready : Bool) (held from : ℕ) (p : Pending) (v : Values) → from ≤ length bytes / 64 → Run bytes ready held from p v from p v
+none-taken bytes ready held from p v within =
     record { begun = omega arith; within = within; long-xy = refl; long-z = refl; long-m = refl; long-t = refl; long-tm = refl; still = λ s table ends tells. tells; rest = λ s table ends tells. refl }
 
-module _ {bytes : List ℕ} {ready : Bool} {from : ℕ} {f : Feature} {p : Pending} {v : Values} {taken : ℕ} {f′ : Feature} {p′ : Pending} {v′ : Values} (so-far : Run bytes ready from f p v taken f′ p′ v′) (more-left : taken < length bytes / 64) where
+module _ {bytes : List ℕ} {ready : Bool} {held from : ℕ} {p : Pending} {v : Values} {taken : ℕ} {p′ : Pending} {v′ : Values} (so-far : Run bytes ready held from p v taken p′ v′) (more-left : taken < length bytes / 64) where
   module _ (xy z m t tm : Bool) (n : ℕ) (e : Event) (test : Bool) (number : n ≡ featureIn (recordOf bytes taken)) (event : PlainEvent (recordOf bytes taken) (valuesWith xy z m t tm) e) (apart : Apart p′ v′ (valuesWith xy z m t tm) test) where
-    one-more : (belongs f′ n && ready && test) ≡ true → Run bytes ready from f p v (taken + 1) (Numbered n) (grownAll p′ (valuesWith xy z m t tm)) (pushed v′ p′ (valuesWith xy z m t tm) e)
+    one-more : (eqb n held && ready && test) ≡ true → Run bytes ready held from p v (taken + 1) (grownAll p′ (valuesWith xy z m t tm)) (pushed v′ p′ (valuesWith xy z m t tm) e)
     one-more ok =
         record {
           begun = omega (arith, so-far .begun);
@@ -229,16 +228,16 @@ module _ {bytes : List ℕ} {ready : Bool} {from : ℕ} {f : Feature} {p : Pendi
           long-tm = same-tm ∙ so-far .long-tm;
           still = λ s table ends tells.
               let is = taken-so s table ends (so-far .still s table ends tells) in
-              is-ready (amid s (Numbered n) (grownAll p′ (valuesWith xy z m t tm))) (recordsLent table) (lentWith ends (pushed v′ p′ (valuesWith xy z m t tm) e))
+              is-ready (amid s held (grownAll p′ (valuesWith xy z m t tm))) (recordsLent table) (lentWith ends (pushed v′ p′ (valuesWith xy z m t tm) e))
               (same-ready (ap (λ (o : Outcome). o .wrote .state) (sym is)) refl (same-lent ends)
-              (event-ready (amid s f′ p′) (memWith table ends v′) (recordOf bytes taken) (ap (λ (o : Outcome). o .wrote .number) (sym is))))
-              ∙ sym (both (belongs f′ n) ready (both (belongs f′ n && ready) test ok .0) .1);
+              (event-ready (amid s held p′) (memWith table ends v′) (recordOf bytes taken) (ap (λ (o : Outcome). o .wrote .number) (sym is))))
+              ∙ sym (both (eqb n held) ready (both (eqb n held && ready) test ok .0) .1);
           rest = λ s table ends tells.
               let is = taken-so s table ends (so-far .still s table ends tells) in
               let left : ℕ = recordsIn bytes - (taken + 1) in
               let one-less : suc left ≡ recordsIn bytes - taken = omega (arith, more-left) in
-              went-on left taken bytes (amid s f′ p′) (memWith table ends v′) is refl
-              ∙ ap (λ (n : ℕ). eventsFrom n taken bytes (amid s f′ p′) (memWith table ends v′)) one-less
+              went-on left taken bytes (amid s held p′) (memWith table ends v′) is refl
+              ∙ ap (λ (n : ℕ). eventsFrom n taken bytes (amid s held p′) (memWith table ends v′)) one-less
               ∙ so-far .rest s table ends tells;
         }
       where
@@ -260,19 +259,23 @@ module _ {bytes : List ℕ} {ready : Bool} {from : ℕ} {f : Feature} {p : Pendi
         same-lent : (ends : List ℕ) → lentWith ends v′ ≡ lentWith ends (pushed v′ p′ (valuesWith xy z m t tm) e)
         same-lent ends = sym (λ i. record { xy = same-xy i; ends = length ends; z = same-z i; m = same-m i; t = same-t i; tm = same-tm i })
 
-        taken-so : (s : State) (table ends : List ℕ) → isReady (amid s f′ p′) (recordsLent table) (lentWith ends v′) ≡ ready
-            → outcome (wrote 0 (amid s (Numbered n) (grownAll p′ (valuesWith xy z m t tm)))) (memWith table ends (pushed v′ p′ (valuesWith xy z m t tm) e)) ≡ eventCall (amid s f′ p′) (memWith table ends v′) (recordOf bytes taken)
-        taken-so s table ends tells =
-            ap (λ (b : Bool). cond b (outcome (wrote 0 (amid s (Numbered n) (grownAll p′ (valuesWith xy z m t tm)))) (memWith table ends (pushed v′ p′ (valuesWith xy z m t tm) e))) (outcome (wrote (blockedNumber (amid s f′ p′) n) (amid s f′ p′)) (memWith table ends v′))) (sym ok)
-            ∙ comes-to (amid s f′ p′) table ends v′ xy z m t tm ready test tells apart (recordOf bytes taken) n e number event
+        same-number : n ≡ held
+        same-number = eqb-true n held (both (eqb n held) ready (both (eqb n held && ready) test ok .0) .0)
 
-    blocked : (belongs f′ n && ready && test) ≡ false → BlockedAt bytes ready taken n f′ p′ v′
+        taken-so : (s : State) (table ends : List ℕ) → isReady (amid s held p′) (recordsLent table) (lentWith ends v′) ≡ ready
+            → outcome (wrote 0 (amid s held (grownAll p′ (valuesWith xy z m t tm)))) (memWith table ends (pushed v′ p′ (valuesWith xy z m t tm) e)) ≡ eventCall (amid s held p′) (memWith table ends v′) (recordOf bytes taken)
+        taken-so s table ends tells =
+            ap (λ (k : ℕ). outcome (wrote 0 (amid s k (grownAll p′ (valuesWith xy z m t tm)))) (memWith table ends (pushed v′ p′ (valuesWith xy z m t tm) e))) (sym same-number)
+            ∙ ap (λ (b : Bool). cond b (outcome (wrote 0 (amid s n (grownAll p′ (valuesWith xy z m t tm)))) (memWith table ends (pushed v′ p′ (valuesWith xy z m t tm) e))) (outcome (wrote (blockedNumber (amid s held p′) n) (amid s held p′)) (memWith table ends v′))) (sym ok)
+            ∙ comes-to (amid s held p′) table ends v′ xy z m t tm ready test tells apart (recordOf bytes taken) n e number event
+
+    blocked : (eqb n held && ready && test) ≡ false → BlockedAt bytes ready held taken (eqb n held) p′ v′
     blocked not-so =
         record {
           more-left = more-left;
           answers = λ s table ends tells.
-              ap (λ (b : Bool). cond b (outcome (wrote 0 (amid s (Numbered n) (grownAll p′ (valuesWith xy z m t tm)))) (memWith table ends (pushed v′ p′ (valuesWith xy z m t tm) e))) (outcome (wrote (blockedNumber (amid s f′ p′) n) (amid s f′ p′)) (memWith table ends v′))) (sym not-so)
-              ∙ comes-to (amid s f′ p′) table ends v′ xy z m t tm ready test tells apart (recordOf bytes taken) n e number event;
+              ap (λ (b : Bool). cond b (outcome (wrote 0 (amid s n (grownAll p′ (valuesWith xy z m t tm)))) (memWith table ends (pushed v′ p′ (valuesWith xy z m t tm) e))) (outcome (wrote (blockedNumber (amid s held p′) n) (amid s held p′)) (memWith table ends v′))) (sym not-so)
+              ∙ comes-to (amid s held p′) table ends v′ xy z m t tm ready test tells apart (recordOf bytes taken) n e number event;
         }
 
 -- ---- each of the three: a pair,
@@ -295,24 +298,24 @@ pair-grown p = (λ i. record { xy = words (p .xy .start) (p .xy .count + 2); end
 none-grown : (p : Pending) → p ≡ grownAll p noWords
 none-grown p = (λ i. record { xy = same (p .xy) i; ends = p .ends; z = same (p .z) i; m = same (p .m) i; t = same (p .t) i; tm = same (p .tm) i }) ∙ grown-lanes p noWords refl
 
-same-run : {bytes : List ℕ} {ready : Bool} {from : ℕ} {f : Feature} {p : Pending} {v : Values} {taken : ℕ} {f′ : Feature} {p′ p″ : Pending} {v′ v″ : Values} → p′ ≡ p″ → v′ ≡ v″ → Run bytes ready from f p v taken f′ p″ v″ → Run bytes ready from f p v taken f′ p′ v′
-same-run {bytes} {ready} {from} {f} {p} {v} {taken} {f′} {p′} {p″} {v′} {v″} pending values run = rw (pending, values) run
+same-run : {bytes : List ℕ} {ready : Bool} {held from : ℕ} {p : Pending} {v : Values} {taken : ℕ} {p′ p″ : Pending} {v′ v″ : Values} → p′ ≡ p″ → v′ ≡ v″ → Run bytes ready held from p v taken p″ v″ → Run bytes ready held from p v taken p′ v′
+same-run {bytes} {ready} {held} {from} {p} {v} {taken} {p′} {p″} {v′} {v″} pending values run = rw (pending, values) run
 
-module _ {bytes : List ℕ} {ready : Bool} {from : ℕ} {f : Feature} {p : Pending} {v : Values} {taken : ℕ} {f′ : Feature} {p′ : Pending} {v′ : Values} (so-far : Run bytes ready from f p v taken f′ p′ v′) (more-left : taken < length bytes / 64) {n : ℕ} (number : n ≡ featureIn (recordOf bytes taken)) where
-  pub pair-taken : {x y : ℕ} → HeardPair (recordOf bytes taken) x y → (belongs f′ n && ready && pairRoom p′ (length (v′ .xy))) ≡ true → {xy : List ℕ} → xy ≡ sets (v′ .xy) (used (p′ .xy)) (x ∷ y ∷ [])
-      → Run bytes ready from f p v (taken + 1) (Numbered n) (withPair p′) (valuesOf xy (v′ .z) (v′ .m) (v′ .t) (v′ .tm))
+module _ {bytes : List ℕ} {ready : Bool} {held from : ℕ} {p : Pending} {v : Values} {taken : ℕ} {p′ : Pending} {v′ : Values} (so-far : Run bytes ready held from p v taken p′ v′) (more-left : taken < length bytes / 64) {n : ℕ} (number : n ≡ featureIn (recordOf bytes taken)) where
+  pub pair-taken : {x y : ℕ} → HeardPair (recordOf bytes taken) x y → (eqb n held && ready && pairRoom p′ (length (v′ .xy))) ≡ true → {xy : List ℕ} → xy ≡ sets (v′ .xy) (used (p′ .xy)) (x ∷ y ∷ [])
+      → Run bytes ready held from p v (taken + 1) (withPair p′) (valuesOf xy (v′ .z) (v′ .m) (v′ .t) (v′ .tm))
   pair-taken h ok xy-is =
       same-run (pair-grown p′) (λ i. valuesOf ((xy-is ∙ sym (λ j. sets (v′ .xy) (used (p′ .xy)) (h .x-is j ∷ h .y-is j ∷ []))) i) (v′ .z) (v′ .m) (v′ .t) (v′ .tm))
       (one-more so-far more-left true false false false false n (h .event) (pairRoom p′ (length (v′ .xy))) number (pair-plain h) (pair-apart p′ v′) ok)
 
-  pub pair-blocked : {x y : ℕ} → HeardPair (recordOf bytes taken) x y → (belongs f′ n && ready && pairRoom p′ (length (v′ .xy))) ≡ false → BlockedAt bytes ready taken n f′ p′ v′
+  pub pair-blocked : {x y : ℕ} → HeardPair (recordOf bytes taken) x y → (eqb n held && ready && pairRoom p′ (length (v′ .xy))) ≡ false → BlockedAt bytes ready held taken (eqb n held) p′ v′
   pair-blocked h not-so = blocked so-far more-left true false false false false n (h .event) (pairRoom p′ (length (v′ .xy))) number (pair-plain h) (pair-apart p′ v′) not-so
 
   -- ---- a begin that sets no type,
-  pub quiet-taken : HeardQuiet (recordOf bytes taken) → (belongs f′ n && ready) ≡ true → Run bytes ready from f p v (taken + 1) (Numbered n) p′ v′
+  pub quiet-taken : HeardQuiet (recordOf bytes taken) → (eqb n held && ready) ≡ true → Run bytes ready held from p v (taken + 1) p′ v′
   quiet-taken h ok = same-run (none-grown p′) refl (one-more so-far more-left false false false false false n (h .event) true number (quiet-plain h) (quiet-apart p′ v′) (and-true ok refl))
 
-  pub quiet-blocked : HeardQuiet (recordOf bytes taken) → (belongs f′ n && ready) ≡ false → BlockedAt bytes ready taken n f′ p′ v′
+  pub quiet-blocked : HeardQuiet (recordOf bytes taken) → (eqb n held && ready) ≡ false → BlockedAt bytes ready held taken (eqb n held) p′ v′
   quiet-blocked h not-so = blocked so-far more-left false false false false false n (h .event) true number (quiet-plain h) (quiet-apart p′ v′) (ap (λ (b : Bool). b && true) not-so)
 
   -- ---- and a coordinate
@@ -320,13 +323,23 @@ module _ {bytes : List ℕ} {ready : Bool} {from : ℕ} {f : Feature} {p : Pendi
     abbrev test : Bool
     test = valuesRoom p′ (pairWith (e .present)) (length (v′ .xy)) (length (v′ .z)) (length (v′ .m)) (length (v′ .t)) (length (v′ .tm))
 
-    pub coordinate-taken : (belongs f′ n && ready && test) ≡ true → {p″ : Pending} {v″ : Values} → p″ ≡ grownValues p′ (pairWith (e .present)) → v″ ≡ pushed v′ p′ (pairWith (e .present)) e → Run bytes ready from f p v (taken + 1) (Numbered n) p″ v″
+    pub coordinate-taken : (eqb n held && ready && test) ≡ true → {p″ : Pending} {v″ : Values} → p″ ≡ grownValues p′ (pairWith (e .present)) → v″ ≡ pushed v′ p′ (pairWith (e .present)) e → Run bytes ready held from p v (taken + 1) p″ v″
     coordinate-taken ok pending-is values-are =
         same-run (pending-is ∙ grown-lanes p′ (pairWith (e .present)) refl) values-are
         (one-more so-far more-left true _ _ _ _ n e test number (coordinate-plain e h) (values-apart p′ v′ true _ _ _ _) ok)
 
-    pub coordinate-blocked : (belongs f′ n && ready && test) ≡ false → BlockedAt bytes ready taken n f′ p′ v′
+    pub coordinate-blocked : (eqb n held && ready && test) ≡ false → BlockedAt bytes ready held taken (eqb n held) p′ v′
     coordinate-blocked not-so = blocked so-far more-left true _ _ _ _ n e test number (coordinate-plain e h) (values-apart p′ v′ true _ _ _ _) not-so
+
+  -- ---- an event of another feature, whatever it is
+  pub another-blocked : (e : Event) → heard (recordOf bytes taken) ≡ WellFormed e → eqb n held ≡ false → BlockedAt bytes ready held taken (eqb n held) p′ v′
+  another-blocked e is differs =
+      record {
+        more-left = more-left;
+        answers = λ s table ends tells.
+            ap (λ (own : Bool). outcome (wrote (blockedBy (s .waiting) own) (amid s held p′)) (memWith table ends v′)) differs
+            ∙ another (amid s held p′) (memWith table ends v′) e (recordOf bytes taken) is (ap (λ (k : ℕ). eqb k held) (sym number) ∙ differs);
+      }
 
 -- ---- a pair by itself: what a run of one comes to
 one-or-other : (b : Bool) (after s : State) (number : ℕ) (table xy xy′ ends z m t tm : List ℕ)
@@ -336,13 +349,13 @@ one-or-other false after s number table xy xy′ ends z m t tm = refl
 
 pub pair-alone : (s : State) (table xy ends z m t tm bytes : List ℕ) {n x y : ℕ} {ready : Bool} {r : Wrote} {xy′ : List ℕ} → n ≡ featureIn bytes → HeardPair bytes x y
     → isReady s (recordsLent table) (lentOf (poolsOf xy ends z m t tm)) ≡ ready
-    → r ≡ cond (belongs (s .feature) n && ready && pairRoom (s .pending) (length xy)) (wrote 0 (amid s (Numbered n) (withPair (s .pending)))) (wrote (blockedNumber s n) s)
+    → r ≡ cond (belongs (s .feature) n && ready && pairRoom (s .pending) (length xy)) (wrote 0 (amid s n (withPair (s .pending)))) (wrote (blockedNumber s n) s)
     → xy′ ≡ cond (belongs (s .feature) n && ready && pairRoom (s .pending) (length xy)) (sets xy (used (s .pending .xy)) (x ∷ y ∷ [])) xy
     → outcome r (memOf table xy′ ends z m t tm) ≡ eventCall s (memOf table xy ends z m t tm) bytes
 pair-alone s table xy ends z m t tm bytes {n} {x} {y} {ready} number h tells answer xy-is =
     let room : Bool = belongs (s .feature) n && ready && pairRoom (s .pending) (length xy) in
     let same-pair : sets xy (used (s .pending .xy)) (x ∷ y ∷ []) ≡ sets xy (used (s .pending .xy)) (h .event .x ∷ h .event .y ∷ []) = sym (λ i. sets xy (used (s .pending .xy)) (h .x-is i ∷ h .y-is i ∷ [])) in
     (λ i. outcome (answer i) (memOf table (xy-is i) ends z m t tm))
-    ∙ (λ i. outcome (cond room (wrote 0 (amid s (Numbered n) (pair-grown (s .pending) i))) (wrote (blockedNumber s n) s)) (memOf table (cond room (same-pair i) xy) ends z m t tm))
-    ∙ one-or-other room (amid s (Numbered n) (grownAll (s .pending) (pairWith 0))) s (blockedNumber s n) table xy (sets xy (used (s .pending .xy)) (h .event .x ∷ h .event .y ∷ [])) ends z m t tm
+    ∙ (λ i. outcome (cond room (wrote 0 (amid s n (pair-grown (s .pending) i))) (wrote (blockedNumber s n) s)) (memOf table (cond room (same-pair i) xy) ends z m t tm))
+    ∙ one-or-other room (amid s n (grownAll (s .pending) (pairWith 0))) s (blockedNumber s n) table xy (sets xy (used (s .pending .xy)) (h .event .x ∷ h .event .y ∷ [])) ends z m t tm
     ∙ comes-to s table ends (valuesOf xy z m t tm) true false false false false ready (pairRoom (s .pending) (length xy)) tells (pair-apart (s .pending) (valuesOf xy z m t tm)) bytes n (h .event) number (pair-plain h)

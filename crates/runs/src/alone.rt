@@ -14,7 +14,6 @@ ghost use mathlib.Core.List.{[], _∷_};
 ghost use lib.ListN.{length};
 ghost use lib.Seq.{sets};
 ghost use Rattle.pending.specs.Words.{used};
-ghost use Rattle.writing.specs.declared.feature.Feature.the-variants.{Numbered};
 ghost use Rattle.writing.specs.State.{wrote};
 ghost use Rattle.writing.specs.Feature.{belongs};
 ghost use Rattle.runs.specs.Plain.{blockedNumber, amid};
@@ -22,16 +21,15 @@ ghost use Rattle.runs.specs.Run.{pairRoom, withPair};
 
 pub fn take_alone(s: State, n: u32, ready: bool, x: u64, y: u64, xy: &mut [u64]) -> Wrote
     ensures answer { λ r. let room = belongs (s .feature) n && ready && pairRoom (s .pending) (length (now (xy .entry))) in
-        ⌜ r ≡ cond room (wrote 0 (amid s (Numbered n) (withPair (s .pending)))) (wrote (blockedNumber s n) s) ⌝ }
+        ⌜ r ≡ cond room (wrote 0 (amid s n (withPair (s .pending)))) (wrote (blockedNumber s n) s) ⌝ }
     ensures words { λ _. let room = belongs (s .feature) n && ready && pairRoom (s .pending) (length (now (xy .entry))) in
         ⌜ now (xy .exit) ≡ cond room (sets (now (xy .entry)) (used (s .pending .xy)) (x ∷ y ∷ [])) (now (xy .entry)) ⌝ }
 {
     let feature = s.feature;
-    if !(belongs(feature, n)
-        & ready
-        & lane_room(s.pending.xy, true, Words::PAIR, xy.len(), usable::XY_WORDS)) {
+    let own = belongs(feature, n);
+    if !(own & ready & lane_room(s.pending.xy, true, Words::PAIR, xy.len(), usable::XY_WORDS)) {
         return Wrote {
-            number: blocked_number(s, n),
+            number: blocked_number(s.waiting, own),
             state: s,
         };
     }

@@ -1,20 +1,18 @@
-// A plain event that is refused.
+// An event that is blocked.
 use kinds::refusal;
-use writing::feature::belongs;
-use writing::state::State;
 ghost use mathlib.Core.Path.{_≡_};
-ghost use Rattle.runs.specs.Plain.{blockedNumber};
+ghost use Rattle.runs.specs.Plain.{blockedBy};
 
-// Why a plain event of number n is refused: it is not its turn, it is of another feature, or there is no room.
-pub fn blocked_number(s: State, n: u32) -> u8
-    ensures { λ r. ⌜ r ≡ blockedNumber s n ⌝ }
+// Why an event is refused, of the feature in hand or not: it is not its turn, it is of another feature, or there is no room.
+pub fn blocked_number(waiting: bool, own: bool) -> u8
+    ensures { λ r. ⌜ r ≡ blockedBy waiting own ⌝ }
 {
-    if s.waiting {
+    if waiting {
         return refusal::NOT_ITS_TURN;
     }
-    let feature = s.feature;
-    if !belongs(feature, n) {
-        return refusal::OTHER_FEATURE;
+    if own {
+        refusal::NO_ROOM
+    } else {
+        refusal::OTHER_FEATURE
     }
-    refusal::NO_ROOM
 }

@@ -9,8 +9,6 @@ use pending::growth::grown_values;
 use pending::room::lane_room;
 use pending::words::Pending;
 use pending::words::Words;
-use writing::feature::Feature;
-use writing::feature::belongs;
 ghost use mathlib.Core.Path.{_≡_};
 ghost use mathlib.Core.Bool.{true, cond};
 ghost use mathlib.Core.List.{[], _∷_};
@@ -25,18 +23,17 @@ ghost use Rattle.runs.specs.Run.{valuesRoom, valuesOf, Ran};
 pub enum Stop {
     // There is no whole record left.
     End,
-    // The next event is plain, and of this number: there is no room for it, it is not its turn, or it is of another feature.
-    Blocked { feature: u32 },
-    // The next event is not plain, and of this number.
-    Other { event: Event, feature: u32 },
+    // The next event is refused: it is of another feature, or it is plain, and there is no room for it or it is not its turn.
+    Blocked { own: bool },
+    // The next event is of the feature in hand, and not plain.
+    Other(Event),
     // The next record is no event.
     Malformed,
 }
 
-// How far a run goes: up to a record, and what is in hand and pending there.
+// How far a run goes: up to a record, and what is pending there.
 pub struct Reached {
     pub taken: usize,
-    pub feature: Feature,
     pub pending: Pending,
     pub stop: Stop,
 }
@@ -87,12 +84,12 @@ fn push_values(
     grown_values(p, added)
 }
 
-// Takes the plain events from a record on, where the writer is ready for them.
+// Takes the plain events of a feature's number from a record on, where the writer has that feature in hand and is ready for them.
 pub fn take_plain(
     bytes: &[u8],
     from: usize,
     ready: bool,
-    f: Feature,
+    held: u32,
     p: Pending,
     xy: &mut [u64],
     z: &mut [u64],
@@ -103,87 +100,94 @@ pub fn take_plain(
     requires { ⌜ from ≤ length (now bytes) / 64 ⌝ }
     ensures { λ r. let before = valuesOf (now (xy .entry)) (now (z .entry)) (now (m .entry)) (now (t .entry)) (now (tm .entry)) in
         let after = valuesOf (now (xy .exit)) (now (z .exit)) (now (m .exit)) (now (t .exit)) (now (tm .exit)) in
-        ⌜ Ran (now (bytes .entry)) ready from f p before r after ⌝ }
+        ⌜ Ran (now (bytes .entry)) ready held from p before r after ⌝ }
 {
     let whole = bytes.len() / 64;
-    let mut feature = f;
     let mut pending = p;
     let mut taken = from;
     while taken < whole {
         let begin = 64 * taken;
         let end = begin + 64;
-        let n = log::feature_in(&bytes[begin..end]);
-        let due = belongs(feature, n) & ready;
+        let own = log::feature_in(&bytes[begin..end]) == held;
         let heard = log::hear(&bytes[begin..end]);
         match heard {
             Heard::Pair { x, y } => {
-                if !(due & lane_room(pending.xy, true, Words::PAIR, xy.len(), usable::XY_WORDS)) {
+                if !(own & ready) {
                     return Reached {
                         taken,
-                        feature,
                         pending,
-                        stop: Stop::Blocked { feature: n },
+                        stop: Stop::Blocked { own },
+                    };
+                }
+                if !lane_room(pending.xy, true, Words::PAIR, xy.len(), usable::XY_WORDS) {
+                    return Reached {
+                        taken,
+                        pending,
+                        stop: Stop::Blocked { own },
                     };
                 }
                 pools::push_pair(xy, pending.xy, true, x, y);
                 let count = pending.xy.count + Words::PAIR;
                 pending.xy.count = count;
-                feature = Feature::Numbered(n);
                 taken += 1;
                 continue;
             }
             Heard::Coordinate(e) => {
-                let added = pair_with(e.present);
-                if !(due
-                    & values_room(
-                        pending,
-                        added,
-                        xy.len(),
-                        z.len(),
-                        m.len(),
-                        t.len(),
-                        tm.len(),
-                    )) {
+                if !(own & ready) {
                     return Reached {
                         taken,
-                        feature,
                         pending,
-                        stop: Stop::Blocked { feature: n },
+                        stop: Stop::Blocked { own },
+                    };
+                }
+                let added = pair_with(e.present);
+                if !values_room(
+                    pending,
+                    added,
+                    xy.len(),
+                    z.len(),
+                    m.len(),
+                    t.len(),
+                    tm.len(),
+                ) {
+                    return Reached {
+                        taken,
+                        pending,
+                        stop: Stop::Blocked { own },
                     };
                 }
                 pending = push_values(pending, added, e, xy, z, m, t, tm);
-                feature = Feature::Numbered(n);
                 taken += 1;
                 continue;
             }
             Heard::Quiet => {
-                if !due {
+                if !(own & ready) {
                     return Reached {
                         taken,
-                        feature,
                         pending,
-                        stop: Stop::Blocked { feature: n },
+                        stop: Stop::Blocked { own },
                     };
                 }
-                feature = Feature::Numbered(n);
                 taken += 1;
                 continue;
             }
             Heard::Other(e) => {
+                if !own {
+                    return Reached {
+                        taken,
+                        pending,
+                        stop: Stop::Blocked { own },
+                    };
+                }
                 return Reached {
                     taken,
-                    feature,
                     pending,
-                    stop: Stop::Other {
-                        event: e,
-                        feature: n,
-                    },
+                    stop: Stop::Other(e),
                 };
             }
             Heard::Malformed => {
                 return Reached {
                     taken,
-                    feature,
                     pending,
                     stop: Stop::Malformed,
                 };
@@ -192,7 +196,6 @@ pub fn take_plain(
     }
     Reached {
         taken,
-        feature,
         pending,
         stop: Stop::End,
     }

@@ -1,5 +1,6 @@
 -- What a call comes to, from what its steps ensure.
-use mathlib.Core.Path.{_≡_, sym, ap, _∙_}
+use mathlib.Core.Path.{_≡_, refl, sym, ap, _∙_}
+use mathlib.Core.Bool.{Bool, true, false, cond}
 use mathlib.Core.List.{List}
 use Prim.Native.Nat.{ℕ, _+_}
 use borrow.Author.Tests.{eq-eqb, ne-eqb}
@@ -12,9 +13,12 @@ use Rattle.log.specs.Log.{heard, featureIn}
 use Rattle.store.specs.Records.{recordsLent, putRecord}
 use Rattle.writing.specs.declared.state.State.{State}
 use Rattle.writing.specs.declared.state.Wrote.{Wrote}
+use Rattle.asking.specs.declared.ask.Ask.{Ask}
 use Rattle.writing.specs.State.{Mem, memory, memOf, Outcome, outcome, settled, wrote}
+use Rattle.writing.specs.Feature.{belongs}
+use Rattle.writing.specs.Due.{out-of-turn, of-another}
 use Rattle.asking.specs.Ask.{noWords, askOf}
-use Rattle.writing.specs.Calls.{eventWith, eventOf, eventCall, rootOf, decideFinish, finishCall, poolMoved, decideNext, nextCall}
+use Rattle.writing.specs.Calls.{memAfter, decideEvent, eventWith, eventOf, eventCall, rootOf, decideFinish, finishCall, poolMoved, decideNext, nextCall}
 use Rattle.pending.specs.Room.{Room}
 use Rattle.writing.specs.Accepted.{finish-accepted, next-accepted}
 
@@ -40,6 +44,18 @@ malformed s k bytes h e = ap (eventOf s k (featureIn bytes)) (sym e ∙ h)
 pub well-formed : (s : State) (k : Mem) (e : Event) (bytes : List ℕ) {p : Parsed} {o : Outcome} → p ≡ heard bytes → p ≡ WellFormed e → o ≡ eventWith s (featureIn bytes) (askOf (s .typing) e) e k → o ≡ eventCall s k bytes
 unfolding eventCall
 well-formed s k e bytes h f is = is ∙ ap (eventOf s k (featureIn bytes)) (sym f ∙ h)
+
+-- an event of another feature, whatever it asks for
+pub another : (s : State) (k : Mem) (e : Event) (bytes : List ℕ) → heard bytes ≡ WellFormed e → belongs (s .feature) (featureIn bytes) ≡ false → outcome (wrote (cond (s .waiting) 15 17) s) k ≡ eventCall s k bytes
+unfolding eventWith decideEvent
+another s k e bytes is differs = well-formed s k e bytes (sym is) refl (by-turn (s .waiting) refl)
+  where
+    a : Ask
+    a = askOf (s .typing) e
+
+    by-turn : (waiting : Bool) → s .waiting ≡ waiting → outcome (wrote (cond waiting 15 17) s) k ≡ eventWith s (featureIn bytes) a e k
+    by-turn true turn = ap (λ (w : Wrote). settled w k (memAfter s a e k)) (out-of-turn s (featureIn bytes) _ turn)
+    by-turn false turn = ap (λ (w : Wrote). settled w k (memAfter s a e k)) (of-another s (featureIn bytes) _ turn differs)
 
 -- ---- finish
 module _ (s : State) (k : Mem) {records : ℕ} {pools : Lent} {r : Wrote} (lends : records ≡ recordsLent (k .table)) (words : pools ≡ lentOf (k .pools)) (decides : r ≡ decideFinish s records pools) where

@@ -19,6 +19,7 @@ use Rattle.asking.specs.declared.ask.Ask.{Ask}
 use Rattle.asking.specs.declared.set_type.Typed.{Typed}
 use Rattle.asking.specs.declared.set_type.Typed.the-variants.{Set, Mixed}
 use Rattle.asking.specs.declared.typing.Typing.{Typing}
+use Rattle.writing.specs.declared.feature.Feature.the-variants.{Numbered}
 use Rattle.writing.specs.declared.state.State.{State}
 use Rattle.writing.specs.declared.state.Wrote.{Wrote}
 use Rattle.pending.specs.Words.{used}
@@ -27,7 +28,7 @@ use Rattle.asking.specs.Ask.{noWords, endIf, ask, OnlyEnds}
 use Rattle.pending.specs.Room.{roomIn, hasRoom, Fits, room-in, and-true, room-tested, room-apart}
 use Rattle.writing.specs.Calls.{isReady, recordsFor, stateAfter, decideTyped, ifDue, decideEvent}
 use Rattle.writing.specs.Feature.{belongs}
-use Rattle.writing.specs.Due.{out-of-turn, of-another, when-due, due-number}
+use Rattle.writing.specs.Due.{out-of-turn, of-another, when-due, is-due, due-number}
 use Rattle.writing.specs.Apart.{used-before}
 
 -- room for what a begin or an end adds: a part's record, and an end
@@ -99,6 +100,20 @@ other-accepted s n a ready records ends ok = by-case (ready && otherRoom s a rec
     by-case room Mixed is ok = absurd (omega (arith, ok))
     by-case false (Set h) is ok = absurd (omega (arith, ok))
     by-case true (Set h) is ok = both ready (otherRoom s a records ends) is
+
+-- and its feature is in hand then
+pub other-held : (s : State) (n : ℕ) (a : Ask) (ready : Bool) (records ends : ℕ) → decideOther s n a ready records ends .number ≡ 0 → decideOther s n a ready records ends .state .feature ≡ Numbered n
+unfolding decideOther stateAfter
+other-held s n a ready records ends ok = ap (λ (w : Wrote). w .state .feature) (is-due s n _ ok) ∙ by-case (ready && otherRoom s a records ends) (a .typed) (due-number s n _ ok)
+  where
+    part-held : (h : Typing) (part : Bool) → stateAfter s n (ask (a .typed) (a .added) part) h .feature ≡ Numbered n
+    part-held h true = refl
+    part-held h false = refl
+
+    by-case : (room : Bool) (t : Typed) → decideTyped s n a room t .number ≡ 0 → decideTyped s n a room t .state .feature ≡ Numbered n
+    by-case room Mixed ok = absurd (omega (arith, ok))
+    by-case false (Set h) ok = absurd (omega (arith, ok))
+    by-case true (Set h) ok = part-held h (a .part)
 
 -- ---- the test of room is that of readiness and its own
 module _ (s : State) (typed : Typed) (end part : Bool) (records : ℕ) (pools : Lent) where

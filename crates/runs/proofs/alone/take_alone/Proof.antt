@@ -1,4 +1,4 @@
-use mathlib.Core.Path.{_≡_, refl, ap}
+use mathlib.Core.Path.{_≡_, refl, ap, _∙_}
 use mathlib.Core.Bool.{_&&_}
 use native.Mathlib.Omega.{arith}
 use Prim.Native.Nat.{ℕ, _+_, _≤_}
@@ -12,6 +12,7 @@ use Rattle.pending.specs.Room.{room-in}
 use Rattle.writing.specs.State.{wrote}
 use Rattle.writing.specs.declared.state.State.{State}
 use Rattle.writing.specs.Feature.{belongs}
+use Rattle.runs.specs.Plain.{blockedBy}
 use Rattle.runs.specs.Run.{pairRoom}
 use Rattle.pending.specs.Words.{words}
 use Rattle.writing.specs.State.{withPending}
@@ -32,8 +33,9 @@ take-alone-spec =
     (λ c κs. search needs)
     (λ c κs. search needs)
     (λ c.
+    let start = c .before .before .before .before .before in
     let full = is-false (test (c .before .before)) (c .before .if1 .taken) in
-    (if-not _ full (ap (λ (n : ℕ). wrote n (c .before .before .before .before .before .args .s)) (c .blocked-number .ensures)), if-not _ full refl))
+    (if-not _ full (ap (λ (n : ℕ). wrote n (start .args .s)) (c .blocked-number .ensures ∙ ap (blockedBy (start .args .s .waiting)) (c .before .before .before .belongs .ensures))), if-not _ full refl))
     (λ c κs. fits (c .before) .0)
     (λ c. omega (arith, fits (c .before .before .before .before .before) .1))
     (λ c κs. search needs)

@@ -1,6 +1,4 @@
 use mathlib.Core.Path.{refl}
-use borrow.Author.Needs.{needs}
-use Rattle.laws.specs.Branch.{is-true, is-false}
 use Rattle.laws.specs.Cond.{if-so, if-not}
 use Rattle.runs.proofs.blocked.blocked_number.Statement.{statement}
 use Rattle.runs.proofs.blocked.blocked_number.Tie as tie
@@ -10,6 +8,5 @@ blocked-number-spec =
     tie.close
     (tie.spec
     (λ c. if-so _ (c .if1 .taken) refl)
-    (λ c κs. search needs)
-    (λ c. if-not _ (c .before .before .if1 .left) (if-not _ (is-false (c .before .belongs .ensures) (c .if2 .taken)) refl))
-    (λ c. if-not _ (c .before .before .if1 .left) (if-so _ (is-true (c .before .belongs .ensures) (c .if2 .left)) refl)))
+    (λ c. if-not _ (c .before .if1 .left) (if-so _ (c .if2 .taken) refl))
+    (λ c. if-not _ (c .before .if1 .left) (if-not _ (c .if2 .left) refl)))
