@@ -1,4 +1,4 @@
--- A call amid its records, which are of one feature: what is left to do, from the state and the memory as they are, comes to what the call comes to.
+-- A call amid its records, which are to be of one feature: what is left to do, from the state and the memory as they are, comes to what the call comes to.
 use mathlib.Core.Path.{_≡_, refl, sym, ap, subst, _∙_}
 use mathlib.Core.Bool.{Bool, true, false, cond}
 use mathlib.Core.List.{List}
@@ -24,7 +24,7 @@ use Rattle.writing.specs.Calls.{isReady, eventCall}
 use Rattle.writing.specs.Apart.{is-ready, was-ready}
 use Rattle.writing.specs.Ends.{malformed}
 use Rattle.runs.specs.Events.{recordOf, recordsIn, Progress, took, progress, eventsFrom, eventsCall, none-left, went-on, stopped}
-use Rattle.runs.specs.Plain.{blockedBy, amid}
+use Rattle.runs.specs.Plain.{blockedBy, blocked-refuses, amid}
 use Rattle.writing.specs.Ready.{same-ready, event-ready}
 use Rattle.writing.specs.Refused.{event-unchanged}
 use Rattle.runs.specs.Run.{Values, memWith, Run, BlockedAt}
@@ -88,7 +88,7 @@ module _ {bytes : List ℕ} {held : ℕ} {s₀ : State} {k₀ : Mem} {ready : Bo
           rest = went-on (recordsIn bytes - (taken + 1)) taken bytes s k is ok ∙ all;
         }
 
-  -- ---- it is no event, or blocked
+  -- ---- it is no event
   pub at-malformed : taken < recordsIn bytes → heard (recordOf bytes taken) ≡ Malformed → progress (took 11 taken s) k ≡ eventsCall s₀ k₀ bytes
   at-malformed more-left is = at-refused more-left (malformed s k (recordOf bytes taken) (sym is) refl) (λ h. omega (arith, h))
 
@@ -105,17 +105,13 @@ module _ {bytes : List ℕ} {held : ℕ} {s₀ : State} {k₀ : Mem} {ready : Bo
           let short : length (recordOf bytes taken) ≡ 64 → ⊥ = λ long. some (omega (arith, long, end, length-take 64 (drop (64 * taken) bytes), length-drop (64 * taken) bytes)) in
           at-malformed (omega (arith, some, end)) (not-whole (recordOf bytes taken) short)
 
+-- ---- it is blocked
 pub at-blocked : {bytes : List ℕ} {held : ℕ} {s₀ : State} {k₀ : Mem} {ready : Bool} {taken : ℕ} {own : Bool} {s : State} {table ends : List ℕ} {v : Values}
     → Going bytes held s₀ k₀ ready taken s (memWith table ends v) → BlockedAt bytes ready held taken own (s .pending) v → progress (took (blockedBy (s .waiting) own) taken s) (memWith table ends v) ≡ eventsCall s₀ k₀ bytes
 at-blocked {bytes} {taken} {own} {s} {table} {ends} {v} so-far stop =
     at-refused so-far (omega (arith, stop .more-left))
     (subst (λ (t : State). outcome (wrote (blockedBy (s .waiting) own) t) (memWith table ends v) ≡ eventCall t (memWith table ends v) (recordOf bytes taken)) (sym (as-amid s (s .pending) (so-far .in-hand))) (stop .answers s table ends (so-far .tells)))
-    (refuses (s .waiting) own)
-  where
-    refuses : (waiting own : Bool) → _≡_ {A = ℕ} (blockedBy waiting own) 0 → ⊥
-    refuses true own h = omega (arith, h)
-    refuses false true h = omega (arith, h)
-    refuses false false h = omega (arith, h)
+    (blocked-refuses (s .waiting) own)
 
 -- ---- a call with one whole record comes to what the event comes to
 abbrev answered : Progress → Outcome

@@ -25,12 +25,12 @@ use Rattle.writing.specs.Calls.{stateAfter, decideTyped, ifDue, decideEvent, ta
 use Rattle.runs.specs.declared.took.Took.{Took}
 use Rattle.runs.specs.Events.{recordOf, recordsIn, Progress, took, progress, eventsFrom, eventsCall, by-records}
 
--- less than a record has no number, and is malformed under any
+-- less than a record has no number, and nothing of it is taken under any
 abbrev pub heldBy : Feature → List ℕ → ℕ
 heldBy Open bytes = cond (ltb (length bytes) 64) 0 (featureIn (recordOf bytes 0))
 heldBy (Numbered n) bytes = n
 
-abbrev pub opened : State → List ℕ → State
+abbrev opened : State → List ℕ → State
 opened s bytes = withFeature s (Numbered (heldBy (s .feature) bytes))
 
 -- ---- one event, of a feature that both states take: the same number, and the same in all where it is accepted
@@ -69,9 +69,9 @@ from-there bytes = by-records bytes (λ i s k p. FromThere i s p)
     (λ i s k p ok later. record { onward = omega (arith, later .onward); left = λ is. absurd (omega (arith, is, later .onward)) })
 
 -- ---- the call with its feature in hand, and the call
-pub record Opened (s : State) (p q : Progress) : Type 0 where
-  pub none : p .took .taken ≡ 0 → progress (took (p .took .number) 0 s) (p .mem) ≡ q
-  pub some : (p .took .taken ≡ 0 → ⊥) → p ≡ q
+record Opened (s : State) (p q : Progress) : Type 0 where
+  none : p .took .taken ≡ 0 → progress (took (p .took .number) 0 s) (p .mem) ≡ q
+  some : (p .took .taken ≡ 0 → ⊥) → p ≡ q
 
 module _ (s : State) (k : Mem) (bytes : List ℕ) where
   -- a feature is in hand already
@@ -91,8 +91,8 @@ module _ (s : State) (k : Mem) (bytes : List ℕ) where
 
   first : s .feature ≡ Open → (left : ℕ) → Opened s (eventsFrom left 0 bytes (withFeature s (Numbered (heldBy Open bytes))) k) (eventsFrom left 0 bytes s k)
   unfolding eventsFrom eventCall
-  first none zero = record { none = λ is. refl; some = λ some. absurd (some refl) }
-  first none (suc left) = by-number (eqb (o .wrote .number) 0) (eqb (o′ .wrote .number) 0) refl refl
+  first unheld zero = record { none = λ is. refl; some = λ some. absurd (some refl) }
+  first unheld (suc left) = by-number (eqb (o .wrote .number) 0) (eqb (o′ .wrote .number) 0) refl refl
     where
       t : State
       t = withFeature s (Numbered (heldBy Open bytes))
@@ -104,7 +104,7 @@ module _ (s : State) (k : Mem) (bytes : List ℕ) where
       o′ = eventCall t k (recordOf bytes 0)
 
       both-alike : Alike o o′
-      both-alike = alike s k (featureIn (recordOf bytes 0)) (heldBy Open bytes) (heard (recordOf bytes 0)) (ap (λ (f : Feature). belongs f (featureIn (recordOf bytes 0))) none) held-first
+      both-alike = alike s k (featureIn (recordOf bytes 0)) (heldBy Open bytes) (heard (recordOf bytes 0)) (ap (λ (f : Feature). belongs f (featureIn (recordOf bytes 0))) unheld) held-first
 
       by-number : (b b′ : Bool) → eqb (o .wrote .number) 0 ≡ b → eqb (o′ .wrote .number) 0 ≡ b′
           → Opened s (cond b′ (eventsFrom left 1 bytes (o′ .wrote .state) (o′ .mem)) (progress (took (o′ .wrote .number) 0 t) k)) (cond b (eventsFrom left 1 bytes (o .wrote .state) (o .mem)) (progress (took (o .wrote .number) 0 s) k))
@@ -115,12 +115,12 @@ module _ (s : State) (k : Mem) (bytes : List ℕ) where
       by-number true false is is′ = absurd (eqb-false (o′ .wrote .number) 0 is′ (sym (both-alike .number) ∙ eqb-true (o .wrote .number) 0 is))
       by-number false true is is′ = absurd (eqb-false (o .wrote .number) 0 is (both-alike .number ∙ eqb-true (o′ .wrote .number) 0 is′))
 
-  pub opened-is : Opened s (eventsCall (opened s bytes) k bytes) (eventsCall s k bytes)
+  opened-is : Opened s (eventsCall (opened s bytes) k bytes) (eventsCall s k bytes)
   unfolding eventsCall
   opened-is = by-feature (s .feature) refl
     where
       by-feature : (f : Feature) → s .feature ≡ f → Opened s (eventsFrom (recordsIn bytes) 0 bytes (withFeature s (Numbered (heldBy f bytes))) k) (eventsFrom (recordsIn bytes) 0 bytes s k)
-      by-feature Open none = first none (recordsIn bytes)
+      by-feature Open unheld = first unheld (recordsIn bytes)
       by-feature (Numbered n) is =
           subst (λ (t : State). Opened s (eventsFrom (recordsIn bytes) 0 bytes t k) (eventsFrom (recordsIn bytes) 0 bytes s k)) (ap (withFeature s) is)
           (stays (eventsFrom (recordsIn bytes) 0 bytes s k) (from-there bytes (recordsIn bytes) 0 s k))
@@ -129,8 +129,8 @@ module _ (s : State) (k : Mem) (bytes : List ℕ) where
     call-is : progress r k′ ≡ eventsCall (opened s bytes) k bytes
     call-is = is ∙ ap (λ (u : State). eventsCall u k bytes) (is-opened ∙ ap (λ (n : ℕ). withFeature s (Numbered n)) number)
 
-    pub none-taken : r .taken ≡ 0 → progress (took (r .number) 0 s) k′ ≡ eventsCall s k bytes
-    none-taken none = ap (λ (p : Progress). progress (took (p .took .number) 0 s) (p .mem)) call-is ∙ opened-is .none (ap (λ (p : Progress). p .took .taken) (sym call-is) ∙ none)
+    pub none-was-taken : r .taken ≡ 0 → progress (took (r .number) 0 s) k′ ≡ eventsCall s k bytes
+    none-was-taken none = ap (λ (p : Progress). progress (took (p .took .number) 0 s) (p .mem)) call-is ∙ opened-is .none (ap (λ (p : Progress). p .took .taken) (sym call-is) ∙ none)
 
-    pub some-taken : (r .taken ≡ 0 → ⊥) → progress r k′ ≡ eventsCall s k bytes
-    some-taken some = call-is ∙ opened-is .some (λ none. some (ap (λ (p : Progress). p .took .taken) call-is ∙ none))
+    pub some-was-taken : (r .taken ≡ 0 → ⊥) → progress r k′ ≡ eventsCall s k bytes
+    some-was-taken some = call-is ∙ opened-is .some (λ none. some (ap (λ (p : Progress). p .took .taken) call-is ∙ none))

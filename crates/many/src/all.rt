@@ -1,4 +1,4 @@
-// Events of one feature, which is in hand: runs of plain events, and between them the others one by one.
+// Events that are to be of one feature, which is in hand: runs of plain events, and between them the others one by one.
 use frames::take_other;
 use kinds::geometry::Lent;
 use kinds::refusal;

@@ -11,8 +11,8 @@ ghost use mathlib.Core.Path.{_≡_};
 ghost use Rattle.writing.specs.State.{memOf};
 ghost use Rattle.runs.specs.Events.{progress, eventsCall};
 
-// Takes events' records up to the first that is refused. All are to be of one feature, which is in hand for them: so none of them
-// asks whether one is. Where nothing is taken, the state stays as it was. Refused: 11, 15, 17, 5, 12.
+// Takes events' records up to the first that is refused. The number that they must have is settled first and put in hand, so that a
+// run has one number to compare with; where nothing is taken, the state stays as it was. Refused: 11, 15, 17, 5, 12.
 pub fn events(
     s: State,
     bytes: &[u8],

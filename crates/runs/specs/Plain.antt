@@ -31,15 +31,20 @@ use Rattle.pending.specs.Growth.{grownAll}
 abbrev pub plain : State → Added → Ask
 plain s added = ask (Set (s .typing)) added false
 
--- why an event is refused, of the feature in hand or not: it is not its turn, it is of another feature, or there is no room
+-- why an event is refused, where own says whether it is of the feature in hand: it is not its turn, it is of another feature, or there is no room
 abbrev pub blockedBy : Bool → Bool → ℕ
 blockedBy waiting own = cond waiting 15 (cond own 12 17)
+
+pub blocked-refuses : (waiting own : Bool) → blockedBy waiting own ≡ 0 → ⊥
+blocked-refuses true own h = omega (arith, h)
+blocked-refuses false true h = omega (arith, h)
+blocked-refuses false false h = omega (arith, h)
 
 -- why a plain one is refused under number n, where it is
 abbrev pub blockedNumber : State → ℕ → ℕ
 blockedNumber s n = blockedBy (s .waiting) (belongs (s .feature) n)
 
--- a state amid a run: which feature is in hand and what is pending may be another's, and all else stays
+-- a state amid a run: the feature of this number is in hand and these words are pending, and all else stays
 abbrev pub amid : State → ℕ → Pending → State
 amid s held p = withPending (withFeature s (Numbered held)) p
 
@@ -93,7 +98,7 @@ module _ (s : State) (n : ℕ) (added : Added) (records : ℕ) (pools : Lent) (r
   plain-decides = by-turn (s .waiting) (belongs (s .feature) n) tells
     where
       by-turn : (waiting own : Bool) → (not waiting && hasRoom (s .pending) noWords (recordsUsed s) records pools) ≡ ready
-          → cond (own && ready && test) (wrote 0 after) (wrote (cond waiting 15 (cond own 12 17)) s) ≡ cond waiting (wrote 15 s) (cond own (roomOr s (hasRoom (s .pending) added (recordsUsed s) records pools) after) (wrote 17 s))
+          → cond (own && ready && test) (wrote 0 after) (wrote (blockedBy waiting own) s) ≡ cond waiting (wrote 15 s) (cond own (roomOr s (hasRoom (s .pending) added (recordsUsed s) records pools) after) (wrote 17 s))
       by-turn true true tells = ap (λ (b : Bool). cond (b && test) (wrote 0 after) (wrote 15 s)) (sym tells)
       by-turn true false tells = refl
       by-turn false false tells = refl

@@ -1,4 +1,4 @@
--- A run of plain events: where a writer is ready, each asks for room in the pools that it adds to and for nothing else.
+-- A run of plain events: where a writer is ready, each is held to one number, and asks for room in the pools that it adds to and for nothing else.
 use mathlib.Core.Path.{_≡_, refl, sym, ap, _∙_}
 use mathlib.Core.Bool.{Bool, true, false, cond, _&&_}
 use mathlib.Core.List.{List, [], _∷_}
@@ -7,7 +7,7 @@ use native.Mathlib.Omega.{arith}
 use lib.Dec.{eqb}
 use lib.ListN.{length, take, drop}
 use lib.Seq.{sets, length-sets}
-use borrow.Author.Tests.{eqb-true}
+use borrow.Author.Tests.{eqb-true, ne-eqb}
 use Rattle.laws.specs.Every.{both}
 use Rattle.kinds.specs.Event.{WellFormed, Malformed}
 use Rattle.kinds.specs.Lanes.{xyL, endsL, zL, mL, tL, tmL}
@@ -32,9 +32,9 @@ use Rattle.asking.specs.Ask.{noWords, pairWith}
 use Rattle.pending.specs.Room.{roomIn, hasRoom, and-true, room-tested, room-apart, ValuesFit, room-in}
 use Rattle.writing.specs.Calls.{isReady, tableAfter, memAfter, eventWith, eventCall}
 use Rattle.pending.specs.Growth.{grown, grownAll, grownValues}
-use Rattle.writing.specs.Ends.{well-formed, another}
+use Rattle.writing.specs.Ends.{well-formed, another-feature}
 use Rattle.runs.specs.Events.{recordOf, recordsIn, eventsFrom, went-on}
-use Rattle.runs.specs.Plain.{blockedBy, blockedNumber, amid, PlainEvent, pair-plain, coordinate-plain, quiet-plain, plain-decides}
+use Rattle.runs.specs.Plain.{blockedBy, blocked-refuses, blockedNumber, amid, PlainEvent, pair-plain, coordinate-plain, quiet-plain, plain-decides}
 use Rattle.writing.specs.Ready.{same-ready, event-ready}
 use Rattle.writing.specs.Apart.{is-ready}
 
@@ -149,12 +149,7 @@ values-apart p v xy z m t tm records table ends =
 
 -- ---- what a plain event comes to, from the test of readiness and its own
 refused-so : (s : State) (n : ℕ) (k after : Mem) → settled (wrote (blockedNumber s n) s) k after ≡ outcome (wrote (blockedNumber s n) s) k
-refused-so s n k after = by-tests (s .waiting) (belongs (s .feature) n)
-  where
-    by-tests : (waiting own : Bool) → outcome (wrote (cond waiting 15 (cond own 12 17)) s) (cond (eqb (cond waiting 15 (cond own 12 17)) 0) after k) ≡ outcome (wrote (cond waiting 15 (cond own 12 17)) s) k
-    by-tests true own = refl
-    by-tests false true = refl
-    by-tests false false = refl
+refused-so s n k after = ap (λ (done : Bool). outcome (wrote (blockedNumber s n) s) (cond done after k)) (ne-eqb (blockedNumber s n) 0 (blocked-refuses (s .waiting) (belongs (s .feature) n)))
 
 module _ (s : State) (table ends : List ℕ) (v : Values) (xy z m t tm : Bool) (ready test : Bool) (tells : isReady s (recordsLent table) (lentWith ends v) ≡ ready) (apart : Apart (s .pending) v (valuesWith xy z m t tm) test) where
   comes-to : (bytes : List ℕ) (n : ℕ) (e : Event) → n ≡ featureIn bytes → PlainEvent bytes (valuesWith xy z m t tm) e
@@ -338,7 +333,7 @@ module _ {bytes : List ℕ} {ready : Bool} {held from : ℕ} {p : Pending} {v : 
         more-left = more-left;
         answers = λ s table ends tells.
             ap (λ (own : Bool). outcome (wrote (blockedBy (s .waiting) own) (amid s held p′)) (memWith table ends v′)) differs
-            ∙ another (amid s held p′) (memWith table ends v′) e (recordOf bytes taken) is (ap (λ (k : ℕ). eqb k held) (sym number) ∙ differs);
+            ∙ another-feature (amid s held p′) (memWith table ends v′) e (recordOf bytes taken) is (ap (λ (k : ℕ). eqb k held) (sym number) ∙ differs);
       }
 
 -- ---- a pair by itself: what a run of one comes to

@@ -46,9 +46,9 @@ unfolding eventCall
 well-formed s k e bytes h f is = is ∙ ap (eventOf s k (featureIn bytes)) (sym f ∙ h)
 
 -- an event of another feature, whatever it asks for
-pub another : (s : State) (k : Mem) (e : Event) (bytes : List ℕ) → heard bytes ≡ WellFormed e → belongs (s .feature) (featureIn bytes) ≡ false → outcome (wrote (cond (s .waiting) 15 17) s) k ≡ eventCall s k bytes
+pub another-feature : (s : State) (k : Mem) (e : Event) (bytes : List ℕ) → heard bytes ≡ WellFormed e → belongs (s .feature) (featureIn bytes) ≡ false → outcome (wrote (cond (s .waiting) 15 17) s) k ≡ eventCall s k bytes
 unfolding eventWith decideEvent
-another s k e bytes is differs = well-formed s k e bytes (sym is) refl (by-turn (s .waiting) refl)
+another-feature s k e bytes is differs = well-formed s k e bytes (sym is) refl (by-turn (s .waiting) refl)
   where
     a : Ask
     a = askOf (s .typing) e

@@ -102,18 +102,22 @@ other-accepted s n a ready records ends ok = by-case (ready && otherRoom s a rec
     by-case true (Set h) is ok = both ready (otherRoom s a records ends) is
 
 -- and its feature is in hand then
+pub after-held : (s : State) (n : ℕ) (a : Ask) (h : Typing) → stateAfter s n a h .feature ≡ Numbered n
+unfolding stateAfter
+after-held s n a h = by-part (a .part)
+  where
+    by-part : (part : Bool) → stateAfter s n (ask (a .typed) (a .added) part) h .feature ≡ Numbered n
+    by-part true = refl
+    by-part false = refl
+
 pub other-held : (s : State) (n : ℕ) (a : Ask) (ready : Bool) (records ends : ℕ) → decideOther s n a ready records ends .number ≡ 0 → decideOther s n a ready records ends .state .feature ≡ Numbered n
-unfolding decideOther stateAfter
+unfolding decideOther
 other-held s n a ready records ends ok = ap (λ (w : Wrote). w .state .feature) (is-due s n _ ok) ∙ by-case (ready && otherRoom s a records ends) (a .typed) (due-number s n _ ok)
   where
-    part-held : (h : Typing) (part : Bool) → stateAfter s n (ask (a .typed) (a .added) part) h .feature ≡ Numbered n
-    part-held h true = refl
-    part-held h false = refl
-
     by-case : (room : Bool) (t : Typed) → decideTyped s n a room t .number ≡ 0 → decideTyped s n a room t .state .feature ≡ Numbered n
     by-case room Mixed ok = absurd (omega (arith, ok))
     by-case false (Set h) ok = absurd (omega (arith, ok))
-    by-case true (Set h) ok = part-held h (a .part)
+    by-case true (Set h) ok = after-held s n a h
 
 -- ---- the test of room is that of readiness and its own
 module _ (s : State) (typed : Typed) (end part : Bool) (records : ℕ) (pools : Lent) where

@@ -5,7 +5,7 @@ use denote.Ref.{now}
 use borrow.Author.Needs.{needs}
 use Rattle.writing.specs.declared.state.State.{State}
 use Rattle.writing.specs.State.{Mem, memOf}
-use Rattle.many.specs.Held.{none-taken, some-taken}
+use Rattle.many.specs.Held.{none-was-taken, some-was-taken}
 use Rattle.many.proofs.events.Statement.{statement}
 use Rattle.many.proofs.events.Tie as tie
 
@@ -33,7 +33,7 @@ events-spec =
     (λ c. search needs)
     (λ c. search needs)
     (λ c. search needs)
-    (λ c. let took = c .before .before .before .before .before .before .before .before .before .before .before .before .before .before .before .before in none-taken (start took .args .s) (memory took) (bytes took) (took .before .before .before .before .before .before .before .before .before .held-by .ensures) (took .before .before .before .before .before .before .before .before .with-feature .ensures) (took .take-all .ensures) (c .if1 .taken))
+    (λ c. let took = c .before .before .before .before .before .before .before .before .before .before .before .before .before .before .before .before in none-was-taken (start took .args .s) (memory took) (bytes took) (took .before .before .before .before .before .before .before .before .before .held-by .ensures) (took .before .before .before .before .before .before .before .before .with-feature .ensures) (took .take-all .ensures) (c .if1 .taken))
     (λ c. search needs)
     (λ c. search needs)
     (λ c. search needs)
@@ -41,4 +41,4 @@ events-spec =
     (λ c. search needs)
     (λ c. search needs)
     (λ c. search needs)
-    (λ c. let took = c .before .before .before .before .before .before .before .before .before .before .before .before .before .before .before .before in some-taken (start took .args .s) (memory took) (bytes took) (took .before .before .before .before .before .before .before .before .before .held-by .ensures) (took .before .before .before .before .before .before .before .before .with-feature .ensures) (took .take-all .ensures) (c .if1 .left)))
+    (λ c. let took = c .before .before .before .before .before .before .before .before .before .before .before .before .before .before .before .before in some-was-taken (start took .args .s) (memory took) (bytes took) (took .before .before .before .before .before .before .before .before .before .held-by .ensures) (took .before .before .before .before .before .before .before .before .with-feature .ensures) (took .take-all .ensures) (c .if1 .left)))
