@@ -1,9 +1,10 @@
 /* A field edge with two keep-out rings, and what the crew has to know; then a field in two blocks. Each is written, read back
- * and printed, with the box around it. */
+ * and printed, with the box around it. A name that is not UTF-8 is refused, and the dealer is told where it went bad. */
 #include "bintolage.h"
 
 #include <stdio.h>
 #include <stdlib.h>
+#include <string.h>
 
 /* A small terminal's memory; z, m, t and tm are not used. */
 static bintolage_state state;
@@ -28,6 +29,9 @@ static const bintolage_memory memory = {
 static const uint8_t columns[] = {BINTOLAGE_COLUMN_DOUBLE, BINTOLAGE_COLUMN_USHORT, BINTOLAGE_COLUMN_STRING};
 static const char *const names[] = {"depth", "slope", "crew"};
 static const char crew[] = "Jensen, Søren";
+
+/* Another of the crew, typed on an old keypad, which writes Latin-1. */
+static const char typed[] = "H. Schr\xe4" "der";
 
 static const double edge[][2] = {{0, 0}, {400, 0}, {400, 250}, {0, 250}, {0, 0}};
 static const double main_pipe[][2] = {{50, 40}, {50, 60}, {350, 60}, {350, 40}, {50, 40}};
@@ -81,11 +85,24 @@ static void give_blocks(void)
     give(bintolage_end(BLOCKS, BINTOLAGE_MULTI_POLYGON, 0, 0));
 }
 
+/* A name that is not UTF-8 is refused, and the feature goes on as though it had not come. */
+static void give_crew(const char *name)
+{
+    size_t place;
+    const uint8_t answer = bintolage_give_text(&state, &memory, 2, columns[2], name, strlen(name), &place);
+    if (answer == BINTOLAGE_NOT_UTF8) {
+        printf("%s: not UTF-8 at byte %zu (0x%02x)\n", names[2], place, (uint8_t)name[place]);
+    } else {
+        must(names[2], answer);
+    }
+}
+
 static void give_properties(void)
 {
     must("depth", bintolage_give_number(&state, &memory, 0, columns[0], bintolage_bits_of(1.15)));
     must("slope", bintolage_give_number(&state, &memory, 1, columns[1], 3));
-    must("crew", bintolage_give_text(&state, &memory, 2, columns[2], crew, sizeof crew - 1));
+    give_crew(typed);
+    give_crew(crew);
 }
 
 static void print_event(bintolage_event_fields e)
@@ -127,7 +144,7 @@ static void print_value(bintolage_value_fields v)
 static void print_properties(void)
 {
     uint32_t count;
-    must("values", bintolage_read_values(&state, &memory, columns, sizeof columns, values, 8, &count));
+    must("values", bintolage_read_values(&state, &memory, columns, sizeof columns, values, 8, &count, NULL));
     for (uint32_t i = 0; i < count; i++) {
         print_value(bintolage_value_of(&values[i]));
     }

@@ -1,5 +1,6 @@
 /* The inline layer of bintolage.h, checked: records that are built are read back, null lists are lent as none, features are
- * told apart by their numbers, and every answer has its words. Prints how many checks were made and how many failed. */
+ * told apart by their numbers, a text that went bad has its place, and every answer has its words. Prints how many checks
+ * were made and how many failed. */
 #include "bintolage.h"
 
 #include <stdio.h>
@@ -163,8 +164,8 @@ static void make_every_call(const bintolage_memory *memory, uint8_t answers[ANSW
     answers[1] = bintolage_give_many(&state, memory, line + 1, 3, &taken);
     answers[2] = (uint8_t)taken;
     answers[3] = bintolage_give_number(&state, memory, 0, BINTOLAGE_COLUMN_INT, 7);
-    answers[4] = bintolage_give_text(&state, memory, 1, BINTOLAGE_COLUMN_STRING, "pipe", 4);
-    answers[5] = bintolage_read_values(&state, memory, two, 2, values, 2, &count);
+    answers[4] = bintolage_give_text(&state, memory, 1, BINTOLAGE_COLUMN_STRING, "pipe", 4, NULL);
+    answers[5] = bintolage_read_values(&state, memory, two, 2, values, 2, &count, NULL);
     answers[6] = (uint8_t)count;
     answers[7] = bintolage_finish_feature(&state, memory);
     answers[8] = bintolage_read_feature(memory, BINTOLAGE_MULTI_LINE_STRING, 15, FEATURE, log, 8, &count);
@@ -207,11 +208,12 @@ static void check_answers(void)
     check("a null log", bintolage_read_feature(&all, 5, 0, 0, NULL, 3, &count) == BINTOLAGE_LOG_FULL && count == 0);
     bintolage_start(&state, 0, 0, 0);
     check("no events", bintolage_give_many(&state, &all, NULL, 3, &taken) == BINTOLAGE_DONE && taken == 0);
-    check("no text", bintolage_give_text(&state, &all, 0, BINTOLAGE_COLUMN_STRING, NULL, 3) == BINTOLAGE_DONE);
+    check("no text", bintolage_give_text(&state, &all, 0, BINTOLAGE_COLUMN_STRING, NULL, 3, NULL) == BINTOLAGE_DONE);
     check("its bytes", bintolage_property_bytes(&state) == 6 && memcmp(properties, "\0\0\0\0\0\0", 6) == 0);
-    check("no columns", bintolage_read_values(&state, &all, NULL, 3, NULL, 3, &count) == BINTOLAGE_COLUMN_UNKNOWN);
+    check("no columns", bintolage_read_values(&state, &all, NULL, 3, NULL, 3, &count, NULL) == BINTOLAGE_COLUMN_UNKNOWN);
     state.words[2] = MOST;
-    check("no more is read than is lent", bintolage_read_values(&state, &nothing, NULL, 0, NULL, 0, &count) == BINTOLAGE_DONE);
+    check("no more is read than is lent",
+          bintolage_read_values(&state, &nothing, NULL, 0, NULL, 0, &count, NULL) == BINTOLAGE_DONE);
 }
 
 static int is_box(bintolage_edges box, double least_x, double least_y, double greatest_x, double greatest_y)
@@ -373,9 +375,10 @@ static void check_values(void)
         check("a number given", bintolage_give_number(&state, &all, type, type, most_of(type)) == BINTOLAGE_DONE);
     }
     for (uint8_t type = 11; type < 15; type++) {
-        check("a text given", bintolage_give_text(&state, &all, type, type, "mål", 4) == BINTOLAGE_DONE);
+        check("a text given", bintolage_give_text(&state, &all, type, type, "mål", 4, NULL) == BINTOLAGE_DONE);
     }
-    check("values read", bintolage_read_values(&state, &all, columns, 15, log, 15, &count) == BINTOLAGE_DONE && count == 15);
+    check("values read", bintolage_read_values(&state, &all, columns, 15, log, 15, &count, NULL) == BINTOLAGE_DONE);
+    check("as many as were given", count == 15);
     for (uint8_t type = 0; type < 15; type++) {
         const bintolage_value_fields v = bintolage_value_of(&log[type]);
         check("its column and type", v.column == type && v.column_type == type);
@@ -390,12 +393,146 @@ static void check_types(void)
         bintolage_state state;
         bintolage_start(&state, 0, 0, 0);
         const uint8_t number = bintolage_give_number(&state, &all, 0, (uint8_t)type, 0);
-        const uint8_t text = bintolage_give_text(&state, &all, 0, (uint8_t)type, "", 0);
+        const uint8_t text = bintolage_give_text(&state, &all, 0, (uint8_t)type, "", 0, NULL);
         check("a number's type", number == (type < 11 ? BINTOLAGE_DONE : BINTOLAGE_MALFORMED));
         check("a text's type", text == (type > 10 && type < 15 ? BINTOLAGE_DONE : BINTOLAGE_MALFORMED));
         check("a number's column", bintolage_give_number(&state, &all, 65536, (uint8_t)type, 0) == BINTOLAGE_COLUMN_TOO_LARGE);
-        check("a text's column", bintolage_give_text(&state, &all, 65536, (uint8_t)type, "", 0) == BINTOLAGE_COLUMN_TOO_LARGE);
+        check("a text's column",
+              bintolage_give_text(&state, &all, 65536, (uint8_t)type, "", 0, NULL) == BINTOLAGE_COLUMN_TOO_LARGE);
     }
+}
+
+/* A text, what a call is to answer to it, and where it went bad. */
+typedef struct text_case {
+    const char *bytes;
+    size_t length;
+    uint8_t answer;
+    size_t place;
+} text_case;
+
+static const text_case good = {"mål", 4, BINTOLAGE_DONE, 0};
+static const text_case typed = {"H. Schr\xe4" "der", 11, BINTOLAGE_NOT_UTF8, 7};
+static const text_case others[] = {
+    {"", 0, BINTOLAGE_DONE, 0},
+    {"\xe5l", 2, BINTOLAGE_NOT_UTF8, 0},
+    {"mål\xa5\xff", 6, BINTOLAGE_NOT_UTF8, 4},
+    {"12 \xe2\x82/m", 7, BINTOLAGE_NOT_UTF8, 3}, /* a character that is broken is placed at its first byte, */
+    {"12 \xe2\x82", 5, BINTOLAGE_NOT_UTF8, 3},   /* and so is one that is cut */
+};
+
+/* The same text where another answer is due, with which there is no place. */
+static text_case but(text_case text, uint8_t answer)
+{
+    text.answer = answer;
+    text.place = 0;
+    return text;
+}
+
+/* What stands in a place before a call, and is no text's. */
+#define UNWRITTEN SIZE_MAX
+
+/* Whether a writer in this state answers so to the text, and writes the place. */
+static int is_given(bintolage_state state, const bintolage_memory *memory, uint32_t column, uint8_t type, text_case text)
+{
+    size_t place = UNWRITTEN;
+    const uint8_t answer = bintolage_give_text(&state, memory, column, type, text.bytes, text.length, &place);
+    return answer == text.answer && place == text.place;
+}
+
+static void check_given(text_case text)
+{
+    bintolage_state state;
+    bintolage_start(&state, 0, 0, 0);
+    check("where a String went bad", is_given(state, &all, 0, BINTOLAGE_COLUMN_STRING, text));
+    check("where a Json went bad", is_given(state, &all, 0, BINTOLAGE_COLUMN_JSON, text));
+    check("where a DateTime went bad", is_given(state, &all, 0, BINTOLAGE_COLUMN_DATE_TIME, text));
+    check("a Binary never does", is_given(state, &all, 0, BINTOLAGE_COLUMN_BINARY, but(text, BINTOLAGE_DONE)));
+    check("a place that is not wanted", bintolage_give_text(
+        &state, &all, 0, BINTOLAGE_COLUMN_STRING, text.bytes, text.length, NULL) == text.answer);
+}
+
+/* With another refusal there is no place. There is room for one byte less than the good text needs. */
+static void check_given_otherwise(void)
+{
+    const bintolage_memory narrow = without(1 << 7, 0, 9);
+    const uint8_t string = BINTOLAGE_COLUMN_STRING;
+    bintolage_state state, waiting;
+    bintolage_start(&state, 0, 0, 0);
+    waiting = state;
+    check("a feature that waits", bintolage_finish_feature(&waiting, &all) == BINTOLAGE_DONE);
+    check("no place with 15", is_given(waiting, &all, 0, string, but(typed, BINTOLAGE_NOT_ITS_TURN)));
+    check("no place with 16", is_given(state, &all, 65536, string, but(typed, BINTOLAGE_COLUMN_TOO_LARGE)));
+    check("no place with 11", is_given(state, &all, 0, BINTOLAGE_COLUMN_INT, but(typed, BINTOLAGE_MALFORMED)));
+    check("no place with 12", is_given(state, &narrow, 0, string, but(good, BINTOLAGE_NO_ROOM)));
+    check("6 before 12", is_given(state, &narrow, 0, string, typed));
+}
+
+/* A text that no property buffer has room for is searched to its end. */
+static void check_given_far(void)
+{
+    static char bytes[BINTOLAGE_PROPERTY_BYTES + 9];
+    static const size_t places[] = {0, 255, 65535, 65536, sizeof bytes - 1};
+    text_case text = {bytes, sizeof bytes, BINTOLAGE_NOT_UTF8, 0};
+    bintolage_state state;
+    bintolage_start(&state, 0, 0, 0);
+    memset(bytes, 'a', sizeof bytes);
+    check("a text too long", is_given(state, &all, 0, BINTOLAGE_COLUMN_STRING, but(text, BINTOLAGE_NO_ROOM)));
+    for (int i = 0; i < 5; i++) {
+        text.place = places[i];
+        bytes[text.place] = '\xe4';
+        check("where it went bad", is_given(state, &all, 0, BINTOLAGE_COLUMN_STRING, text));
+        bytes[text.place] = 'a';
+    }
+}
+
+/* A number, and the text behind it: as Binary, which any bytes are. */
+static bintolage_state holding(text_case text)
+{
+    const uint8_t binary = BINTOLAGE_COLUMN_BINARY;
+    bintolage_state state;
+    bintolage_start(&state, 0, 0, 0);
+    check("a number before", bintolage_give_number(&state, &all, 0, BINTOLAGE_COLUMN_UINT, MOST) == BINTOLAGE_DONE);
+    check("any bytes", bintolage_give_text(&state, &all, 1, binary, text.bytes, text.length, NULL) == BINTOLAGE_DONE);
+    return state;
+}
+
+/* Whether a reading that has the text as a String answers so, and writes the place. A refusal stands at the text. */
+static int is_read(bintolage_state state, size_t columns_count, size_t log_records, text_case text)
+{
+    static const uint8_t types[] = {BINTOLAGE_COLUMN_UINT, BINTOLAGE_COLUMN_STRING};
+    bintolage_value_record log[2];
+    uint32_t count = MOST;
+    size_t place = UNWRITTEN;
+    const uint8_t answer = bintolage_read_values(&state, &all, types, columns_count, log, log_records, &count, &place);
+    return answer == text.answer && place == text.place && count == (answer == BINTOLAGE_DONE ? 2u : 1u);
+}
+
+static void check_read_otherwise(void)
+{
+    bintolage_state state = holding(typed);
+    check("6 before 9", is_read(state, 2, 1, typed));
+    check("no place with 2", is_read(state, 1, 2, but(typed, BINTOLAGE_COLUMN_UNKNOWN)));
+    state.words[2]--;
+    check("no place with 14", is_read(state, 2, 2, but(typed, BINTOLAGE_VALUE_CUT)));
+    check("no place with 9", is_read(holding(good), 2, 1, but(good, BINTOLAGE_LOG_FULL)));
+}
+
+static void check_place(text_case text)
+{
+    check_given(text);
+    check("where a text that is read went bad", is_read(holding(text), 2, 2, text));
+}
+
+static void check_places(void)
+{
+    check_place(good);
+    check_place(typed);
+    for (int i = 0; i < 5; i++) {
+        check_place(others[i]);
+    }
+    check_given_otherwise();
+    check_given_far();
+    check_read_otherwise();
 }
 
 static void check_value_bytes(void)
@@ -436,6 +573,7 @@ int main(void)
     check_boxes();
     check_values();
     check_types();
+    check_places();
     check_value_bytes();
     check_words();
     printf("layer: %u checks, %u failed\n", checks, failures);

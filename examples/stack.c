@@ -24,7 +24,7 @@ static uint8_t buffer[256], records[128 * 64];
 static const uint8_t text[] = {'S', 0xc3, 0xb8, 'r', 'e', 'n'};
 static const uint8_t columns[] = {BINTOLAGE_COLUMN_STRING};
 static uint32_t count;
-static size_t taken;
+static size_t taken, place;
 static uint8_t stopped;
 static uint64_t edges[4];
 
@@ -33,14 +33,17 @@ static uint64_t edges[4];
 static void start(void) { bintolage_start(&state, BINTOLAGE_POLYGON, 1, 1); }
 static void take(void) { bintolage_event(&state, event, sizeof event, table, sizeof table, POOLS); }
 static void take_many(void) { bintolage_events(&state, event, sizeof event, table, sizeof table, POOLS, &taken); }
-static void property(void) { bintolage_property(&state, 0, BINTOLAGE_COLUMN_STRING, 0, text, sizeof text, buffer, sizeof buffer); }
+static void property(void)
+{
+    bintolage_property(&state, 0, BINTOLAGE_COLUMN_STRING, 0, text, sizeof text, buffer, sizeof buffer, &place);
+}
 static void finish(void) { bintolage_finish(&state, table, sizeof table, POOLS); }
 static void next(void) { bintolage_next(&state, table, sizeof table, POOLS); }
 static void read_tree(void) { bintolage_read(table, sizeof table, POOLS, 0, 15, 7, records, sizeof records, &count); }
 static void read_properties(void)
 {
     bintolage_read_properties(buffer, state.words[2], 1, columns, sizeof columns, BINTOLAGE_NO_STOP, records, sizeof records,
-                              &count, &stopped);
+                              &count, &stopped, &place);
 }
 static void box(void) { bintolage_box(table, sizeof table, POOLS, 0, edges); }
 

@@ -92,6 +92,10 @@ extern "C" {
  * Every call but bintolage_start answers 0 for done, or why it was refused. A refused write changes nothing: neither a
  * word of the state nor a lent byte (of bintolage_events this is the event that was refused; those before it are taken).
  * Of a refused read the log has the records that come before the refused place, and no others.
+ *
+ * With 6 the two calls on properties say in `place` where the text went bad: the first byte that begins no well-formed
+ * character, counted from 0 at the text's own first byte. A character that is cut short or broken is placed at its first
+ * byte. With every other answer, 0 for done too, the place is 0; with 6 it may be 0 as well.
  */
 #define BINTOLAGE_DONE             0
 #define BINTOLAGE_XY_ABSENT        1  /* read: a list of coordinates is absent where one is needed */
@@ -100,7 +104,8 @@ extern "C" {
 #define BINTOLAGE_TYPE_UNKNOWN     3  /* read: no such geometry type, or one that has no events (0, 13, 14) */
 #define BINTOLAGE_TYPE_NOT_A_CURVE 4  /* read: a type that does not belong in a curve or a surface */
 #define BINTOLAGE_TYPES_MIXED      5  /* event: this type does not go into a feature of the declared type */
-#define BINTOLAGE_NOT_UTF8         6  /* property, read_properties: a String, Json or DateTime is not UTF-8 (RFC 3629) */
+#define BINTOLAGE_NOT_UTF8         6  /* property, read_properties: a String, Json or DateTime is not UTF-8 (RFC 3629), and
+                                         `place` says where */
 #define BINTOLAGE_PAST_LIST        7  /* read: a coordinate, or a z, m, t or tm value, lies past its list */
 #define BINTOLAGE_BAD_END          8  /* read: an end that is 2^31 or larger, or less than the end before it */
 #define BINTOLAGE_LOG_FULL         9  /* read, read_properties: the log has no room for the next record */
@@ -294,13 +299,16 @@ uint8_t bintolage_events(
 /*
  * Lays one property down in `buffer`, after those before it: the column's index in two bytes, then the value. A number is
  * given in `bits`, in the low bytes, higher bytes zero (a negative Byte -1 is 0xff), and its text is not looked at; a
- * String, Json, DateTime or Binary is given in `text`, and its bits are not looked at. Refused: 15, 16, 11, 6, 12.
+ * String, Json, DateTime or Binary is given in `text`, and its bits are not looked at. `place` is written refused or not,
+ * and says where a text that is refused with 6 went bad; a text that is longer than the room is searched too, so the place
+ * may be above 65,535. Refused: 15, 16, 11, 6, 12.
  */
 uint8_t bintolage_property(
     bintolage_state *state,
     uint32_t column, uint8_t column_type, uint64_t bits,
     const uint8_t *text, size_t text_bytes,
-    uint8_t *buffer, size_t buffer_bytes);
+    uint8_t *buffer, size_t buffer_bytes,
+    size_t *place);
 
 /*
  * Ends the feature: its root goes down as record 0, and the feature waits. The tree has as many records as the state has
@@ -357,6 +365,9 @@ uint8_t bintolage_read(
  * has the type of each column; with `has_columns` 0 it is not looked at and nothing is read. A column of a type above 14
  * gives no value and takes no bytes. The reading ends after the first value of column `stop`, and says so by 1 in
  * `stopped`, else 0; 65,536 or more for none. A single byte at the end is no property. Refused: 2, 14, 6, 9.
+ *
+ * `place` is written refused or not, and says where a text that is refused with 6 went bad, counted behind the four bytes
+ * of its length, not from the start of `bytes`. It is the text of the next value behind those in the log.
  */
 uint8_t bintolage_read_properties(
     const uint8_t *bytes, size_t bytes_count,
@@ -364,7 +375,7 @@ uint8_t bintolage_read_properties(
     const uint8_t *columns, size_t columns_count,
     uint32_t stop,
     uint8_t *log, size_t log_bytes,
-    uint32_t *count, uint8_t *stopped);
+    uint32_t *count, uint8_t *stopped, size_t *place);
 
 /*
  * The box around the geometry of record `n` with all its parts, as the bit patterns of four doubles: the least x and y,
@@ -688,23 +699,31 @@ static inline uint8_t bintolage_give_number(
     bintolage_state *state, const bintolage_memory *memory, uint32_t column, uint8_t column_type, uint64_t bits)
 {
     uint64_t nothing = 0;
+    size_t unwanted;
     const bintolage_memory lent = bintolage_without_nulls(memory, &nothing);
     const uint8_t type = column_type < BINTOLAGE_COLUMN_STRING ? column_type : BINTOLAGE_NO_TYPE;
     return bintolage_property(
-        state, column, type, bits, (const uint8_t *)&nothing, 0, lent.properties, lent.properties_bytes);
+        state, column, type, bits, (const uint8_t *)&nothing, 0, lent.properties, lent.properties_bytes, &unwanted);
 }
 
-/* Gives the writer a property of a type from 11 to 14: a text, or any bytes for Binary. Refused: 15, 16, 11, 6, 12. */
+/*
+ * Gives the writer a property of a type from 11 to 14: a text, or any bytes for Binary. *place says where a text that is
+ * refused with 6 went bad, and is 0 with every other answer; `place` is null where that is not wanted. Refused: 15, 16, 11,
+ * 6, 12.
+ */
 static inline uint8_t bintolage_give_text(
     bintolage_state *state, const bintolage_memory *memory, uint32_t column, uint8_t column_type,
-    const void *text, size_t text_bytes)
+    const void *text, size_t text_bytes,
+    size_t *place)
 {
     uint64_t nothing = 0;
+    size_t unwanted;
     const bintolage_memory lent = bintolage_without_nulls(memory, &nothing);
     const uint8_t type = column_type < BINTOLAGE_COLUMN_STRING ? BINTOLAGE_NO_TYPE : column_type;
     const uint8_t *bytes = (const uint8_t *)(text ? text : &nothing);
     return bintolage_property(
-        state, column, type, 0, bytes, text ? text_bytes : 0, lent.properties, lent.properties_bytes);
+        state, column, type, 0, bytes, text ? text_bytes : 0, lent.properties, lent.properties_bytes,
+        place ? place : &unwanted);
 }
 
 /* Ends the feature, which then waits. Its tree stands in the table and the pools. Refused: 15, 12. */
@@ -742,15 +761,18 @@ static inline uint8_t bintolage_read_feature(
 
 /*
  * Reads the properties of the feature in hand as values, into the `log_records` records of `log`, and says in *count how
- * many, refused or not. `columns` has the type of each column. Refused: 2, 14, 6, 9.
+ * many, refused or not. `columns` has the type of each column. *place says where a text that is refused with 6 went bad,
+ * counted from the text's own first byte, and is 0 with every other answer; `place` is null where that is not wanted.
+ * Refused: 2, 14, 6, 9.
  */
 static inline uint8_t bintolage_read_values(
     const bintolage_state *state, const bintolage_memory *memory,
     const uint8_t *columns, size_t columns_count,
     bintolage_value_record *log, size_t log_records,
-    uint32_t *count)
+    uint32_t *count, size_t *place)
 {
     uint64_t nothing = 0;
+    size_t unwanted;
     uint8_t stopped;
     const bintolage_memory lent = bintolage_without_nulls(memory, &nothing);
     const size_t used = bintolage_property_bytes(state);
@@ -761,7 +783,7 @@ static inline uint8_t bintolage_read_values(
         1, types, columns ? columns_count : 0,
         BINTOLAGE_NO_STOP,
         bytes, log ? log_records * sizeof *log : 0,
-        count, &stopped);
+        count, &stopped, place ? place : &unwanted);
 }
 
 /* The edges of a box. */

@@ -57,7 +57,8 @@ impl Port {
     }
 
     pub fn property(&mut self, column: u32, column_type: u8, bits: u64, text: &[u8]) -> u8 {
-        bare::property(&mut self.state, column, column_type, bits, text, &mut self.properties)
+        let mut place = 0;
+        bare::property(&mut self.state, column, column_type, bits, text, &mut self.properties, &mut place)
     }
 
     pub fn finish(&mut self) -> u8 {
@@ -101,8 +102,8 @@ impl Port {
 /// How many value records there are.
 pub fn read_properties(bytes: &[u8], columns: &[u8], log: &mut [u8]) -> usize {
     const NO_STOP: u32 = 65536;
-    let (mut count, mut stopped) = (0, 0);
-    let number = bare::read_properties(bytes, Some(columns), NO_STOP, log, &mut count, &mut stopped);
+    let (mut count, mut stopped, mut place) = (0, 0, 0);
+    let number = bare::read_properties(bytes, Some(columns), NO_STOP, log, &mut count, &mut stopped, &mut place);
     assert_eq!(number, 0, "property bytes are read");
     count as usize
 }

@@ -121,10 +121,10 @@ class Answer:
         return state
 
 
-Written = collections.namedtuple("Written", "numbers states features state pending")
+Written = collections.namedtuple("Written", "numbers places states features state pending")
 Feature = collections.namedtuple("Feature", "tree properties raw")
 Read = collections.namedtuple("Read", "number events words")
-Values = collections.namedtuple("Values", "number stopped records words")
+Values = collections.namedtuple("Values", "number stopped place records words")
 
 
 class Oracle:
@@ -141,7 +141,7 @@ class Oracle:
         return answer
 
     def write(self, items, declared=0, detect=0, promote=0):
-        """Items are events, FINISH and prop(..)."""
+        """Items are events, FINISH and prop(..). Each has a number and a place, which is 0 of all but properties."""
         request = [b"W", bytes([declared, detect, promote]), struct.pack("<I", len(items))]
         for item in items:
             if isinstance(item, bytes):
@@ -152,13 +152,14 @@ class Oracle:
                 _, column, kind, value_bits, text = item
                 request.append(b"\2" + struct.pack("<IBQ", column, kind, value_bits) + packed(text))
         answer = self.ask(b"".join(request))
-        numbers, states, features = [], [], []
+        numbers, places, states, features = [], [], [], []
         for item in items:
             numbers.append(answer.byte())
+            places.append(0 if isinstance(item, bytes) or item == FINISH else answer.number())
             if item == FINISH:
                 features.append(Feature(answer.store(), answer.bytes(), answer.bytes()))
             states.append(answer.state())
-        return Written(numbers, states, features, answer.state(), answer.store())
+        return Written(numbers, places, states, features, answer.state(), answer.store())
 
     def read(self, tree, declared=0, flags=0, feature=0):
         answer = self.ask(b"R" + bytes([declared, flags]) + tree.packed())
@@ -172,7 +173,7 @@ class Oracle:
     def read_properties(self, data, columns, stop=65536):
         request = b"P" + struct.pack("<BI", columns is not None, stop) + packed(bytes(columns or b"")) + packed(data)
         answer = self.ask(request)
-        return Values(answer.byte(), answer.byte(), answer.records(16), answer.bytes().decode())
+        return Values(answer.byte(), answer.byte(), answer.number(), answer.records(16), answer.bytes().decode())
 
     def header(self, raw):
         answer = self.ask(b"H" + packed(raw))

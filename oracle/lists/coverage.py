@@ -1,6 +1,6 @@
 """What the lists cover: every refusal, every type, every change of mode, every entry of docs/DIFFERENCES.md, and what is easily misread:
-calls with no event, bits above the flags, parts of which nothing is said, the numbers of features (features.py has what is looked for),
-and boxes: each slip that boxes.py has must be told by a case.
+calls with no event, bits above the flags, parts of which nothing is said, places in texts that go bad, the numbers of features
+(features.py has what is looked for), and boxes: each slip that boxes.py has must be told by a case.
 
     oracle/lists/coverage.py CRATES DIFFERENCES
 
@@ -12,15 +12,20 @@ import differences, features
 from boxes import ARC, SLIPS, Lent, Walk
 from cases import BOX, CUT, EVENT, EVENTS, FINISH, HEARD, LARGE, NEXT, PROPERTY, READ, RECORD, SAID, START, TREE, WHOLE, WRITTEN, frames
 from client import feature_of, store, under
+from texts import bad_place
 
 TYPES = set(range(1, 18)) - {13, 14}
 CHANGES = {(0, 1), (0, 2), (1, 0), (1, 2), (2, 0), (2, 1)}
 USABLE, NO_STOP, TOP = 65536, 65536, 2**32 - 1
 FEATURES = (0, 1, 256, 65536, 2**24, TOP)
+NOT_UTF8, NO_ROOM = 6, 12
+# Where a text goes bad. What is read ends before the last.
+PLACES = ("at 0", "from 1 on", "from 65,536 on")
+# How many events are taken of many; of a property that is the place.
 Call = collections.namedtuple("Call", "what number taken lent event state marks third")
 Tree = collections.namedtuple("Tree", "declared flags feature lists events readings")
-Read = collections.namedtuple("Read", "number columns stop data values")
-Written = collections.namedtuple("Written", "number used column kind bits length text")
+Read = collections.namedtuple("Read", "number columns stop data values place")
+Written = collections.namedtuple("Written", "number used column kind bits length text place")
 Stored = collections.namedtuple("Stored", "sort number rest")
 Box = collections.namedtuple("Box", "number n lent edges")
 
@@ -76,13 +81,13 @@ def properties(cases):
     """What was read, and what was written."""
     read, written = [], []
     for case in cases:
-        row = numbers(case[:44])
+        row = numbers(case[:48])
         if row[0] == READ:
-            columns, data, records = case[36:36 + row[6]], case[36 + row[6]:36 + row[6] + row[8]], case[36 + row[6] + row[8]:]
+            columns, data, records = case[40:40 + row[6]], case[40 + row[6]:40 + row[6] + row[8]], case[40 + row[6] + row[8]:]
             values = [value for _, value in struct.iter_unpack("<QQ", records)]
-            read.append(Read(row[1], list(columns) if row[5] else None, row[7], data, values))
+            read.append(Read(row[1], list(columns) if row[5] else None, row[7], data, values, row[9]))
         else:
-            written.append(Written(row[1], row[4], row[5], row[6], row[7] | row[8] << 32, row[9], case[44:44 + row[10]]))
+            written.append(Written(row[1], row[4], row[5], row[6], row[7] | row[8] << 32, row[9], case[48:48 + row[10]], row[11]))
     return read, written
 
 
@@ -138,7 +143,7 @@ class Lists:
                    and tree.readings[0][2] == given.number and words_of(tree.events) == given.said for tree in self.trees)
 
     def has_values(self, given):
-        return Read(given.number, [given.column], NO_STOP, bytes.fromhex(given.data), given.values) in self.read
+        return Read(given.number, [given.column], NO_STOP, bytes.fromhex(given.data), given.values, given.place) in self.read
 
     def numbers_heard(self, number):
         return {feature_of(case.rest) for case in self.store if (case.sort, case.number) == (HEARD, number)}
@@ -149,6 +154,14 @@ class Lists:
     def numbers_read(self):
         """With the sort of the reading, where an event was read."""
         return {(sort, tree.feature) for tree in self.trees for sort, _, _, count in tree.readings if count}
+
+    def orders(self):
+        """A number that was given, and one behind it in the order that was due too, of texts that go bad behind their first byte."""
+        bad = {case.data for case in self.read if case.number == NOT_UTF8 and case.place}
+        written = [case for case in self.written if 11 <= case.kind < 14 and bad_place(case.text)]
+        given = {case.number for case in written} | {case.number for case in self.read if case.data in bad}
+        cramped = {case.number for case in written if case.used + 6 + len(case.text) > min(case.length, USABLE)}
+        return {(number, NOT_UTF8) for number in given} | {(number, NO_ROOM) for number in cramped}
 
     def tells(self, walk):
         """Whether a box has another answer in the list than this walk gives."""
@@ -182,7 +195,7 @@ ENTRIES = {
     lambda lists: all(lists.was_read(0, where=lambda tree: tree.declared == declared and kinds_of(tree)[:2] == [12, kind])
                       for declared in (9, 10, 11) for kind in (3, 10)),
     "column above 65,535": lambda lists: lists.was_written(16, lambda case: case.column == 65536),
-    "text not UTF-8, written": lambda lists: lists.was_written(6, lambda case: (case.kind, case.text) == (11, b"\x80")),
+    "text not UTF-8, written": lambda lists: lists.was_written(6, lambda case: (case.kind, case.text, case.place) == (11, b"\x80", 0)),
     "value beyond its type": lambda lists: lists.was_written(11, lambda case: (case.kind, case.bits) == (2, 2))
     and lists.was_written(11, lambda case: (case.kind, case.bits) == (0, 256)) and lists.was_written(11, lambda case: case.kind == 15),
     "level 17": lambda lists: lists.was_read(13, 16, lambda tree: is_spare_set(tree, 16)),
@@ -210,6 +223,11 @@ ENTRIES = {
 def kinds_of(tree):
     """The stored type of each record."""
     return [first & 255 for first in tree.lists[0][::16]]
+
+
+def whereabouts(answers):
+    """Where texts go bad, of numbers with their places."""
+    return {PLACES[(place > 0) + (place >= USABLE)] for number, place in answers if number == NOT_UTF8}
 
 
 def is_spare_set(tree, record):
@@ -257,6 +275,10 @@ def main():
     show("number of many events in a call", (0, 5, 11, 12, 15, 17), [call.number for call in lists.calls if call.what == EVENTS])
     show("turn of a call with no event", (0, 1), [call.state[5] for call in lists.calls if call.what == EVENTS and not call.event])
     show("number of a property among calls", (0, 6, 11, 12, 15, 16), [call.number for call in lists.calls if call.what == PROPERTY])
+    show("place of a text that is read", PLACES[:2], whereabouts((case.number, case.place) for case in lists.read))
+    show("place of a text that is written", PLACES, whereabouts((case.number, case.place) for case in lists.written))
+    show("place of a text among calls", PLACES[:2], whereabouts((call.number, call.taken) for call in lists.calls if call.what == PROPERTY))
+    show("order with 6", ((9, 6), (15, 6), (16, 6), (6, 12)), lists.orders())
     show("type written", TYPES, lists.types_written())
     show("type read", TYPES, lists.types_read())
     show("bit above the flags", (16, 32, 64, 128), [tree.flags & bit for tree in lists.trees for bit in (16, 32, 64, 128)])

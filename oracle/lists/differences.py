@@ -13,7 +13,7 @@ from client import begin, bits, end, ev
 
 Row = collections.namedtuple("Row", "declared promote calls trees")
 Reading = collections.namedtuple("Reading", "declared flags tree said number")
-Values = collections.namedtuple("Values", "column data number values")
+Values = collections.namedtuple("Values", "column data number values place", defaults=[0])
 
 
 def tree(kind, xy=None, **lists):
@@ -173,6 +173,7 @@ INPUTS = {
     "end of 2^31 or more": [read(tree(5, PAIR, ends=[2**31, 1]), "5", 8)],
     "value cut short": [Values(11, "00 00 03 00 00 00 61 62", 14, [])],
     "cut and not UTF-8": [Values(11, "00 00 02 00 00 00 ff", 14, [])],
+    "text not UTF-8, read": [Values(11, "00 00 02 00 00 00 61 80", 6, [], 1)],
     "level 17": LEVEL_17,
 }
 

@@ -4,25 +4,27 @@
     oracle/lists/property.py ORACLE > LIST
 
 ORACLE is the oracle's program, the crate's own Rust. Every list is read by it (request P), and every property that is written, or
-refused for its value or its text, is written by it (request W). From this script's own reading of SPEC come only what the oracle
-does not have: 9 for a full log, the usable 65,536 bytes, and on writing 15, 16 and 12. The seed is fixed: the same list comes out every time.
+refused for its value or its text, is written by it (request W). From it is the place, too, at which a text goes bad, and on writing
+Python's own is held to it. From this script's own reading of SPEC come only what the oracle does not have: 9 for a full log, the usable
+65,536 bytes, and on writing 15, 16 and 12. The seed is fixed: the same list comes out every time.
 
 The numbers of a case, by their index; a word takes two.
-  read     0: sort 4, 1: number, 2: count, 3: stopped, 4: log length, 5: has columns, 6: how many, 7: stop column, 8: how many bytes;
-           the column types, the bytes, the log's records after
+  read     0: sort 4, 1: number, 2: count, 3: stopped, 4: log length, 5: has columns, 6: how many, 7: stop column, 8: how many bytes,
+           9: place; the column types, the bytes, the log's records after
   written  0: sort 5, 1: number, 2: used after, 3: waiting, 4: used, 5: column, 6: type, 7: bits (word), 9: buffer length,
-           10: text length; the text, the bytes from `used` on after
+           10: text length, 11: place; the text, the bytes from `used` on after
 """
 import itertools, random, struct, sys
 
-import differences
+import differences, texts
 from cases import READ, WRITTEN, frame, word
 from client import FINISH, Oracle, begin, end, prop, xy
 
-DONE, LOG_FULL, NO_ROOM, WAITING, COLUMN_TOO_LARGE = 0, 9, 12, 15, 16
+DONE, NOT_UTF8, LOG_FULL, NO_ROOM, WAITING, COLUMN_TOO_LARGE = 0, 6, 9, 12, 15, 16
 WIDTHS = (1, 1, 1, 2, 2, 4, 4, 8, 8, 4, 8)
 BOOL, FLOAT, DOUBLE, STRING, BINARY = 2, 9, 10, 11, 14
 TEXTS = range(STRING, BINARY + 1)
+PLAIN_TEXTS = range(STRING, BINARY)
 USABLE = 65536
 NO_STOP = 65536
 oracle = Oracle(sys.argv[1])
@@ -64,13 +66,13 @@ def some_content(kind):
 
 
 def read_case(data, columns, stop=NO_STOP, log_length=None, has_columns=True):
-    code, stopped, records, words = oracle.read_properties(data[:USABLE], columns if has_columns else None, stop)
+    code, stopped, place, records, words = oracle.read_properties(data[:USABLE], columns if has_columns else None, stop)
     assert code <= COLUMN_TOO_LARGE, words
     log_length = 16 * len(records) + pick.randrange(40) if log_length is None else log_length
     room = log_length // 16
     if len(records) > room:
-        code, stopped, records = LOG_FULL, 0, records[:room]
-    head = (READ, code, len(records), stopped, log_length, int(has_columns), len(columns), stop, len(data))
+        code, stopped, place, records = LOG_FULL, 0, 0, records[:room]
+    head = (READ, code, len(records), stopped, log_length, int(has_columns), len(columns), stop, len(data), place)
     return frame(*head, bytes(columns), data, *records)
 
 
@@ -117,6 +119,20 @@ def read_cases():
         yield read_case(skipping_to(place) + item(1, 1, 77), [255, 1])
     for given in differences.inputs_of(differences.Values):
         yield read_case(bytes.fromhex(given.data), [given.column])
+    yield from bad_texts_read()
+
+
+def bad_texts_read():
+    """Texts that go bad: alone, and behind others and in the column to stop at; behind more values than the log has room for; and up to
+    the end of all that is usable, and past it, where they are cut."""
+    for kind, text in zip(itertools.cycle(PLAIN_TEXTS), texts.spoilt()):
+        yield read_case(item(0, kind, text), [kind], log_length=16)
+        yield read_case(item(1, STRING, "ä".encode()) + item(2, 7, 9) + item(0, kind, text), [kind, STRING, 7], stop=0, log_length=32)
+    for length in range(0, 49, 8):
+        yield read_case(item(1, 1, 7) + item(1, 1, 9) + item(0, STRING, b"ok\xff"), [STRING, 1], log_length=length)
+    for length in (USABLE - 6, USABLE - 5):
+        for text in texts.long(length, (0, 255, 256, length - 1)):
+            yield read_case(item(0, STRING, text), [STRING], log_length=16)
 
 
 def skipping_to(place):
@@ -131,23 +147,24 @@ CLOSING = [begin(1), xy(1, 2), end(1), FINISH]
 
 
 def written_by_oracle(column, kind, bits, text):
-    """The oracle's number for a property, and its bytes."""
+    """The oracle's number for a property, its place, and its bytes."""
     answer = oracle.write([prop(column, kind, bits, text), *CLOSING], declared=1)
-    return answer.numbers[0], answer.features[0].properties
+    return answer.numbers[0], answer.places[0], answer.features[0].properties
 
 
 def written_case(kind, bits=0, text=b"", column=0, waiting=False, used=0, length=64):
-    number, laid = DONE, b""
+    number, place, laid = DONE, 0, b""
     if waiting:
         number = WAITING
     elif column > 65535:
         number = COLUMN_TOO_LARGE
     else:
-        number, laid = written_by_oracle(column, kind, bits, text)
+        number, place, laid = written_by_oracle(column, kind, bits, text)
+        assert place == (texts.bad_place(text) if number == NOT_UTF8 else 0), text
         if number == DONE and used + len(laid) > min(length, USABLE):
             number = NO_ROOM
     laid = laid if number == DONE else b""
-    head = (WRITTEN, number, used + len(laid), int(waiting), used, column, kind, word(bits), length, len(text))
+    head = (WRITTEN, number, used + len(laid), int(waiting), used, column, kind, word(bits), length, len(text), place)
     return frame(*head, text, laid)
 
 
@@ -173,17 +190,28 @@ def written_cases():
             yield written_case(kind, 1, text, length=length)
         for broken in itertools.product((False, True), repeat=5):
             waiting, column, malformed, not_utf8, full = broken
-            yield written_case(kind, 2**64 - 1 if malformed else 1, b"\xff" if not_utf8 else b"ok", column=65536 if column else 65535,
+            yield written_case(kind, 2**64 - 1 if malformed else 1, b"ok\xff" if not_utf8 else b"ok", column=65536 if column else 65535,
                                waiting=waiting, length=5 if full and kind in TEXTS else 2 if full else 64)
     for kind in (15, 16, 127, 255):
         for waiting, column, length in itertools.product((False, True), (0, 65536), (0, 64)):
             yield written_case(kind, 0, b"", column=column, waiting=waiting, length=length)
-            yield written_case(kind, 1, b"\xff", column=column, waiting=waiting, length=length)
+            yield written_case(kind, 1, b"ok\xff", column=column, waiting=waiting, length=length)
     for column in (0, 1, 255, 256, 65534, 65535, 65536, 65537, 2**31, 2**32 - 1):
         yield written_case(1, 7, column=column)
         yield written_case(STRING, 7, b"abc", column=column)
     for size in (USABLE - 6, USABLE - 5):
         yield written_case(BINARY, 0, pick.randbytes(size), length=USABLE + 9)
+    yield from bad_texts_written()
+
+
+def bad_texts_written():
+    """Texts that go bad, with room for them and with less than they take up to there; and past all that is usable, too."""
+    for kind, text in zip(itertools.cycle(PLAIN_TEXTS), texts.spoilt()):
+        for length in (64, 6):
+            yield written_case(kind, 0, text, length=length)
+    for text in texts.long(70000, (0, 255, 256, USABLE - 7, USABLE - 6, USABLE - 1, USABLE, USABLE + 1, 69999)):
+        for length in (64, USABLE + 9):
+            yield written_case(STRING, 0, text, length=length)
 
 
 def main():

@@ -6,13 +6,13 @@
 ORACLE is the oracle's program, the crate's own Rust. A row is a start and then events, properties, finishes and nexts, each on memory
 lent as long as the row says at that call. What each call answers and leaves behind is given by `Writer`, this script's own reading of
 SPEC 6. Every row is then written by the oracle too (request W; it is not given what SPEC alone refuses,
-with 12, 15, 16 or 17, or with 11 for its length), and this script stops where the two differ: in a number, in the state after a call, in
-a finished tree, record by record and word by word, in a feature's property bytes, or in the lists still pending at the row's end. From
-SPEC alone come 12, 15, 16, 17, the feature's number in the state, where the pending lists stand, and the words that stay as they were.
-Each row is then given again, with its events many in a call, up to the first that is refused and then on from the one behind it, and
-here and there with a tail that is no whole record: the same states must come of it. A call that is given no event at all is made both
-times. The seeds are fixed: the same list comes out every time. How many rows of each sort there are, and how often each number is
-answered, is written to standard error.
+with 12, 15, 16 or 17, or with 11 for its length), and this script stops where the two differ: in a number, in the place at which a
+property's text goes bad, in the state after a call, in a finished tree, record by record and word by word, in a feature's property bytes,
+or in the lists still pending at the row's end. From SPEC alone come 12, 15, 16, 17, the feature's number in the state, where the pending
+lists stand, and the words that stay as they were. Each row is then given again, with its events many in a call, up to the first that is
+refused and then on from the one behind it, and here and there with a tail that is no whole record: the same states must come of it. A
+call that is given no event at all is made both times. The seeds are fixed: the same list comes out every time. How many rows of each sort
+there are, and how often each number is answered, is written to standard error.
 
 The events of a feature have one number, which a row picks anew after each next; rows about numbers give each event its own. In some of
 these the state is handed over with other marks above 4 and another word 3: that is no call, and the oracle sees nothing of it.
@@ -22,14 +22,14 @@ events, or a property's value (a word) and its text.
   head     how many bytes each number has, 1 or 4; what is called: 0 start, 1 event, 2 events, 3 property, 4 finish, 5 next, 6 nothing:
            the state's words are from here on those of the case
   state    its first word: declared type, current type, mode, marks (1 detect, 2 promote, 4 waiting, 8 numbered)
-  numbers  0: number, 1: how many events are taken of many, 2: how often the call is made, 3: lent records, 4: lent bytes after them,
-           5: lent of each pool, 11: the other words of the state after, 26: column, 27: type
+  numbers  0: number, 1: how many events are taken of many, or a property's place, 2: how often the call is made, 3: lent records,
+           4: lent bytes after them, 5: lent of each pool, 11: the other words of the state after, 26: column, 27: type
 A property's lent bytes are those of its buffer; where the feature has no property bytes yet, canaries are laid down in it before the
 call. A start lays them down in all that it is lent. The checksum is that of all that is lent, after the call.
 """
 import collections, copy, itertools, random, struct, sys
 
-import differences
+import differences, texts
 from cases import EVENT, EVENTS, FINISH, NEXT, PROPERTY, START, WORDS, canary, canary_end, canary_word, frame, word
 from client import FINISH as FINISH_ITEM, Oracle, begin, end, ev, feature_of, prop, store, under
 
@@ -178,23 +178,25 @@ class Writer:
         return DONE, len(starts)
 
     def property(self, column, kind, bits, text, lent):
+        """The number, and the place in the text, which is 0 with every number but 6."""
         if self.properties == 0:
             self.buffer = bytearray(map(canary, range(BUFFER)))
         if self.waiting:
-            return NOT_ITS_TURN
+            return NOT_ITS_TURN, 0
         if column > 65535:
-            return COLUMN_TOO_LARGE
+            return COLUMN_TOO_LARGE, 0
         if kind > BINARY or kind < STRING and bits >= (2 if kind == BOOL else 256 ** WIDTHS[kind]):
-            return MALFORMED
-        if STRING <= kind < BINARY and not is_utf8(text):
-            return NOT_UTF8
+            return MALFORMED, 0
+        place = texts.bad_place(text) if STRING <= kind < BINARY else None
+        if place is not None:
+            return NOT_UTF8, place
         value = bits.to_bytes(WIDTHS[kind], "little") if kind < STRING else struct.pack("<I", len(text)) + text
         laid = struct.pack("<H", column) + value
         if self.properties + len(laid) > min(lent, USABLE_BYTES):
-            return NO_ROOM
+            return NO_ROOM, 0
         self.buffer[self.properties:self.properties + len(laid)] = laid
         self.properties += len(laid)
-        return self.accepted()
+        return self.accepted(), 0
 
     def put_part(self, number):
         """The pending lists as a record; they are pending no longer."""
@@ -235,14 +237,6 @@ class Writer:
         return checksum(itertools.chain(self.table[:64 * lent[0] + lent[1]], *pools))
 
 
-def is_utf8(text):
-    try:
-        text.decode()
-        return True
-    except UnicodeDecodeError:
-        return False
-
-
 def checksum(words):
     mix = 1
     for n in words:
@@ -277,9 +271,9 @@ class Row:
         self.typing = dict(declared=declared, detect=detect, promote=promote)
         self.lay_out(START, DONE, held)
 
-    def lay_out(self, what, number, lent, *given, taken=0, times=1, column=0, kind=0, sum=None):
+    def lay_out(self, what, number, lent, *given, count=0, times=1, column=0, kind=0, sum=None):
         head, state = self.writer.state()
-        numbers = [number, taken, times, *lent, *state, column, kind]
+        numbers = [number, count, times, *lent, *state, column, kind]
         width = 4 if max(numbers) > 255 else 1
         laid = b"".join(n.to_bytes(width, "little") for n in numbers)
         sum = self.writer.checksum(lent) if sum is None else sum
@@ -316,7 +310,7 @@ class Row:
         """Records in one call, so many times over."""
         for _ in range(times):
             number, taken = self.writer.events(records, lent)
-        self.lay_out(EVENTS, number, lent, records, taken=taken, times=times)
+        self.lay_out(EVENTS, number, lent, records, count=taken, times=times)
         return taken
 
     def no_events(self, lent=None):
@@ -325,13 +319,13 @@ class Row:
         return self.many(b"", lent or self.held)
 
     def property(self, column, kind, bits=0, text=b"", lent=BUFFER):
-        number = self.writer.property(column, kind, bits, text, lent)
+        number, place = self.writer.property(column, kind, bits, text, lent)
         if number not in (NOT_ITS_TURN, COLUMN_TOO_LARGE, NO_ROOM):
-            self.ask(prop(column, kind, bits, text), number)
+            self.ask(prop(column, kind, bits, text), number, place)
         self.called(PROPERTY, column, kind, bits, text, lent)
         bytes_lent = (lent // 64, lent % 64, 0, 0, 0, 0, 0, 0)
         left = checksum(self.writer.buffer[:lent])
-        return self.lay_out(PROPERTY, number, bytes_lent, word(bits), text, column=column, kind=kind, sum=left)
+        return self.lay_out(PROPERTY, number, bytes_lent, word(bits), text, count=place, column=column, kind=kind, sum=left)
 
     def finish(self, lent=None):
         number = self.writer.finish(lent or self.held)
@@ -362,18 +356,18 @@ class Row:
         self.finish()
         self.next()
 
-    def ask(self, item, number):
+    def ask(self, item, number, place=0):
         """What the oracle is to answer. Its finish is a finish and a next."""
         writer = self.writer
         parts, properties = (0, 0) if item == FINISH_ITEM else (writer.parts, writer.properties)
         self.items.append(item)
-        self.answers.append((number, [writer.declared, writer.current, MODES[writer.mode], parts, *writer.count, properties]))
+        self.answers.append((number, place, [writer.declared, writer.current, MODES[writer.mode], parts, *writer.count, properties]))
 
     def done(self):
         answer = oracle.write(self.items, **self.typing)
         names = ("declared", "current", "mode", "parts", *POOLS, "properties")
         states = [[state[name] for name in names] for state in answer.states]
-        assert self.answers == list(zip(answer.numbers, states)), self.typing
+        assert self.answers == list(zip(answer.numbers, answer.places, states)), self.typing
         assert self.trees == [(feature.tree.table, feature.tree.pools) for feature in answer.features], self.typing
         assert self.property_bytes == [feature.properties for feature in answer.features], self.typing
         pending = zip(self.writer.pools, self.writer.start, self.writer.count)
@@ -490,7 +484,7 @@ def stray_event():
     return bytes(event)
 
 
-TEXTS = [text.encode() for text in ("", "a", "plough", "äöü €", "\U0010ffff")] + [b"\xff", b"\xc3", b"\xed\xa0\x80", b"a\x80"]
+TEXTS = [text.encode() for text in ("", "a", "plough", "äöü €", "\U0010ffff")] + [b"\xff", b"plough\xc3", b"\xed\xa0\x80", b"\xc3\xa4\x80"]
 
 
 def some_property(row):
@@ -616,7 +610,7 @@ def property_rows():
         row.property(1, 1, 7)
         if waiting:
             row.finish()
-        row.property(65536 if column else 65535, 15 if malformed else kind, 1, b"\xff" if not_utf8 else b"ok", 4 if cut else BUFFER)
+        row.property(65536 if column else 65535, 15 if malformed else kind, 1, b"ok\xff" if not_utf8 else b"ok", 4 if cut else BUFFER)
         row.property(2, 1, 9)
         row.finish()
         row.next()
@@ -629,6 +623,25 @@ def property_rows():
             row.property(1, 2, 1)
             row.property(1, 4, 1)
             row.feature([begin(1), pair(), end(1)])
+        yield row
+
+
+def bad_text_rows():
+    """Texts that go bad at each place, between properties that are taken: with room for them, and with none; and longer than all the
+    buffer. Then one more while the feature waits."""
+    spoilt = zip(itertools.cycle(range(STRING, BINARY)), itertools.cycle((BUFFER, 9)), texts.spoilt())
+    long = ((STRING, BUFFER, text) for text in texts.long(BUFFER + 9, (0, 255, 256, BUFFER - 1, BUFFER, BUFFER + 8)))
+    given = list(itertools.chain(spoilt, long))
+    for at in range(0, len(given), 12):
+        row = Row(1)
+        row.property(1, STRING, 0, "ä".encode())
+        for kind, lent, text in given[at:at + 12]:
+            row.property(2, kind, 0, text, lent)
+        row.property(3, STRING, 0, "€".encode())
+        row.feature([begin(1), pair(), end(1)])
+        row.property(4, STRING, 0, given[at][2])
+        row.finish()
+        row.property(5, STRING, 0, b"ok\xff")
         yield row
 
 
@@ -923,7 +936,7 @@ def main():
                  tight=wild_rows(250, 30, 0.3), leftovers=leftover_rows(), order=order_rows(), room=room_rows(), bench=bench_rows(),
                  limits=limit_rows(), differences=difference_rows(), properties=property_rows(),
                  no_events=no_event_rows(), open=open_rows(), other_feature=other_feature_rows(), number_order=number_order_rows(),
-                 kept_number=kept_number_rows(), number_run=number_run_rows(), handed_over=handed_over_rows())
+                 kept_number=kept_number_rows(), number_run=number_run_rows(), handed_over=handed_over_rows(), bad_texts=bad_text_rows())
     for name, rows in sorts.items():
         laid = [row.done() for row in rows]
         sys.stdout.buffer.write(b"".join(itertools.chain(*laid)))

@@ -1,5 +1,5 @@
 //! A field edge with two keep-out rings, and what the crew has to know; then a field in two blocks. Each is written, read back
-//! and printed, with the box around it.
+//! and printed, with the box around it. A name that is not UTF-8 is refused, and the dealer is told where it went bad.
 use bintolage::{column_type, event, geometry_type, usable, Event, Memory, Refusal, Tree, Value, ValueRecord, Writer};
 
 const COLUMNS: [u8; 3] = [column_type::DOUBLE, column_type::USHORT, column_type::STRING];
@@ -8,6 +8,9 @@ const NAMES: [&str; 3] = ["depth", "slope", "crew"];
 // the numbers of the two features
 const FIELD: u32 = 1;
 const BLOCKS: u32 = 2;
+
+// another of the crew, typed on an old keypad, which writes Latin-1
+const TYPED: &[u8] = b"H. Schr\xe4der";
 
 const EDGE: [(f64, f64); 5] = [(0.0, 0.0), (400.0, 0.0), (400.0, 250.0), (0.0, 250.0), (0.0, 0.0)];
 const MAIN_PIPE: [(f64, f64); 5] = [(50.0, 40.0), (50.0, 60.0), (350.0, 60.0), (350.0, 40.0), (50.0, 40.0)];
@@ -42,6 +45,23 @@ fn write_blocks(writer: &mut Writer) -> Result<(), Refusal> {
     write_block(writer, 0, &WEST)?;
     write_block(writer, 1, &EAST)?;
     writer.event(&Event::end(BLOCKS, geometry_type::MULTI_POLYGON, false, 0))
+}
+
+/// A name that is not UTF-8 is refused, and the feature goes on as though it had not come.
+fn write_typed(writer: &mut Writer, name: &[u8]) -> Result<(), Refusal> {
+    let answer = writer.text(2, COLUMNS[2], name);
+    if let Err(Refusal::NotUtf8 { at }) = answer {
+        println!("{}: not UTF-8 at byte {at} ({:#04x})", NAMES[2], name[at]);
+        return Ok(());
+    }
+    answer
+}
+
+fn write_properties(writer: &mut Writer) -> Result<(), Refusal> {
+    writer.property(0, Value::Double(1.15))?;
+    writer.property(1, Value::UShort(3))?;
+    write_typed(writer, TYPED)?;
+    writer.property(2, Value::String("Jensen, Søren"))
 }
 
 fn print_event(e: Event) {
@@ -94,9 +114,7 @@ fn main() -> Result<(), Refusal> {
         Memory { table: &mut table, xy: &mut xy, ends: &mut ends, z: &mut [], m: &mut [], t: &mut [], tm: &mut [] };
     let mut writer = Writer::start(geometry_type::UNKNOWN, false, false, memory, &mut properties);
     write_field(&mut writer)?;
-    writer.property(0, Value::Double(1.15))?;
-    writer.property(1, Value::UShort(3))?;
-    writer.property(2, Value::String("Jensen, Søren"))?;
+    write_properties(&mut writer)?;
     print_feature(writer.finish()?, FIELD)?;
     print_properties(writer.properties())?;
     writer.next_feature()?;

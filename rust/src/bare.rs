@@ -40,14 +40,23 @@ pub fn events(state: &mut StateWords, events: &[u8], memory: &mut Memory, taken:
 }
 
 #[inline]
-pub fn property(state: &mut StateWords, column: u32, column_type: u8, bits: u64, text: &[u8], buffer: &mut [u8]) -> u8 {
-    // SAFETY: every pointer and count is a slice's, and what is written is borrowed by `&mut`.
+pub fn property(
+    state: &mut StateWords,
+    column: u32,
+    column_type: u8,
+    bits: u64,
+    text: &[u8],
+    buffer: &mut [u8],
+    place: &mut usize,
+) -> u8 {
+    // SAFETY: every pointer and count is a slice's, or a reference's; what is written is borrowed by `&mut`.
     unsafe {
         link::bintolage_property(
             state,
             column, column_type, bits,
             text.as_ptr(), text.len(),
             buffer.as_mut_ptr(), buffer.len(),
+            place,
         )
     }
 }
@@ -76,6 +85,7 @@ pub fn read_properties(
     log: &mut [u8],
     count: &mut u32,
     stopped: &mut u8,
+    place: &mut usize,
 ) -> u8 {
     let types = columns.unwrap_or(&[]);
     // SAFETY: every pointer and count is a slice's, or a reference's; what is written is borrowed by `&mut`.
@@ -86,7 +96,7 @@ pub fn read_properties(
             types.as_ptr(), types.len(),
             stop,
             log.as_mut_ptr(), log.len(),
-            count, stopped,
+            count, stopped, place,
         )
     }
 }

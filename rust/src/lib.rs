@@ -10,6 +10,8 @@
 //!
 //! Every event has the number of its feature, which the caller chooses: a writer takes events of one number until the next
 //! feature, and a reading says the number that it is given, so that one log can take several features.
+//!
+//! A text that is not UTF-8 is refused with the place where it went bad, on writing and on reading: [`Refusal::NotUtf8`].
 #![no_std]
 
 #[rustfmt::skip] // a pointer and its count on one line

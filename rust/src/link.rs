@@ -35,6 +35,7 @@ extern "C" {
         column: u32, column_type: u8, bits: u64,
         text: *const u8, text_bytes: usize,
         buffer: *mut u8, buffer_bytes: usize,
+        place: *mut usize,
     ) -> u8;
 
     pub fn bintolage_finish(
@@ -78,7 +79,7 @@ extern "C" {
         columns: *const u8, columns_count: usize,
         stop: u32,
         log: *mut u8, log_bytes: usize,
-        count: *mut u32, stopped: *mut u8,
+        count: *mut u32, stopped: *mut u8, place: *mut usize,
     ) -> u8;
 
     pub fn bintolage_box(

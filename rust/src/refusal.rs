@@ -15,8 +15,9 @@ pub enum Refusal {
     TypeNotACurve,
     /// 5: the type does not go into a feature of the declared type.
     TypesMixed,
-    /// 6: a text is not UTF-8.
-    NotUtf8,
+    /// 6: a text is not UTF-8. `at` is the place in it of the first byte that begins no well-formed character, as
+    /// [`core::str::Utf8Error::valid_up_to`] has it; a character that is cut short or broken is placed at its first byte.
+    NotUtf8 { at: usize },
     /// 7: a coordinate, or a z, m, t or tm value, lies past its list.
     PastList,
     /// 8: an end that is 2^31 or larger, or less than the end before it.
@@ -41,49 +42,60 @@ pub enum Refusal {
     OtherFeature,
 }
 
-/// Each refusal's number and words.
-const WORDS: [(Refusal, u8, &str); 18] = [
-    (Refusal::XyAbsent, 1, "an xy list is absent"),
-    (Refusal::PartsAbsent, 2, "parts are absent"),
-    (Refusal::ColumnUnknown, 2, "a column is not below the column count"),
-    (Refusal::TypeUnknown, 3, "unknown geometry type"),
-    (Refusal::TypeNotACurve, 4, "unexpected type in a curve"),
-    (Refusal::TypesMixed, 5, "types mixed"),
-    (Refusal::NotUtf8, 6, "text is not UTF-8"),
-    (Refusal::PastList, 7, "a coordinate or a z, m, t or tm value past its list"),
-    (Refusal::BadEnd, 8, "an end that is 2^31 or larger, or less than the end before it"),
-    (Refusal::LogFull, 9, "the log is full"),
-    (Refusal::BadRecord, 10, "bad geometry record or table"),
-    (Refusal::Malformed, 11, "malformed event or value"),
-    (Refusal::NoRoom, 12, "no room in a pool, the table or the property bytes"),
-    (Refusal::TooDeep, 13, "a part at level 17"),
-    (Refusal::ValueCut, 14, "a property value cut short"),
-    (Refusal::NotItsTurn, 15, "not its turn"),
-    (Refusal::ColumnTooLarge, 16, "column number above 65,535"),
-    (Refusal::OtherFeature, 17, "an event of another feature"),
-];
+/// The number and words of a refusal, by its name alone, whatever else it has: NotUtf8 has its place. The rows are names and no
+/// patterns, since .ci/refusals holds them to the C header's.
+macro_rules! row_of {
+    ($refusal:expr, $((Refusal::$name:ident, $number:literal, $words:literal),)*) => {
+        match $refusal {
+            $(Refusal::$name { .. } => ($number, $words),)*
+        }
+    };
+}
 
 impl Refusal {
     pub fn number(self) -> u8 {
-        self.row().1
+        self.row().0
     }
 
     pub fn words(self) -> &'static str {
-        self.row().2
+        self.row().1
     }
 
-    fn row(self) -> &'static (Refusal, u8, &'static str) {
-        &WORDS[self as usize]
+    /// Its number and words.
+    fn row(self) -> (u8, &'static str) {
+        row_of!(
+            self,
+            (Refusal::XyAbsent, 1, "an xy list is absent"),
+            (Refusal::PartsAbsent, 2, "parts are absent"),
+            (Refusal::ColumnUnknown, 2, "a column is not below the column count"),
+            (Refusal::TypeUnknown, 3, "unknown geometry type"),
+            (Refusal::TypeNotACurve, 4, "unexpected type in a curve"),
+            (Refusal::TypesMixed, 5, "types mixed"),
+            (Refusal::NotUtf8, 6, "text is not UTF-8"),
+            (Refusal::PastList, 7, "a coordinate or a z, m, t or tm value past its list"),
+            (Refusal::BadEnd, 8, "an end that is 2^31 or larger, or less than the end before it"),
+            (Refusal::LogFull, 9, "the log is full"),
+            (Refusal::BadRecord, 10, "bad geometry record or table"),
+            (Refusal::Malformed, 11, "malformed event or value"),
+            (Refusal::NoRoom, 12, "no room in a pool, the table or the property bytes"),
+            (Refusal::TooDeep, 13, "a part at level 17"),
+            (Refusal::ValueCut, 14, "a property value cut short"),
+            (Refusal::NotItsTurn, 15, "not its turn"),
+            (Refusal::ColumnTooLarge, 16, "column number above 65,535"),
+            (Refusal::OtherFeature, 17, "an event of another feature"),
+        )
     }
 
-    /// The answer of a call on property bytes, where 2 is about a column.
-    pub(crate) fn of_properties(number: u8) -> Result<(), Refusal> {
+    /// The answer of a call on properties, where 2 is about a column and 6 has its place.
+    pub(crate) fn of_properties(number: u8, place: usize) -> Result<(), Refusal> {
         match number {
             2 => Err(Refusal::ColumnUnknown),
+            6 => Err(Refusal::NotUtf8 { at: place }),
             _ => Refusal::of(number),
         }
     }
 
+    /// The answer of any other call: none of them has a text, so none answers 6.
     pub(crate) fn of(number: u8) -> Result<(), Refusal> {
         match number {
             0 => Ok(()),
@@ -92,7 +104,6 @@ impl Refusal {
             3 => Err(Refusal::TypeUnknown),
             4 => Err(Refusal::TypeNotACurve),
             5 => Err(Refusal::TypesMixed),
-            6 => Err(Refusal::NotUtf8),
             7 => Err(Refusal::PastList),
             8 => Err(Refusal::BadEnd),
             9 => Err(Refusal::LogFull),
@@ -111,7 +122,11 @@ impl Refusal {
 
 impl fmt::Display for Refusal {
     fn fmt(&self, f: &mut fmt::Formatter) -> fmt::Result {
-        write!(f, "{}: {}", self.number(), self.words())
+        write!(f, "{}: {}", self.number(), self.words())?;
+        match self {
+            Refusal::NotUtf8 { at } => write!(f, " at byte {at}"),
+            _ => Ok(()),
+        }
     }
 }
 

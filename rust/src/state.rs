@@ -69,8 +69,8 @@ impl State {
         Taken { answer, count }
     }
 
-    /// Lays a property down in a buffer, after those before it: a number by its bits, a type from 11 to 14 by its text.
-    /// Refused: 15, 16, 11, 6, 12.
+    /// Lays a property down in a buffer, after those before it: a number by its bits, a type from 11 to 14 by its text. A text
+    /// that is longer than the buffer's room is searched for what is not UTF-8 too. Refused: 15, 16, 11, 6, 12.
     pub fn property(
         &mut self,
         column: u32,
@@ -79,7 +79,9 @@ impl State {
         text: &[u8],
         buffer: &mut [u8],
     ) -> Result<(), Refusal> {
-        Refusal::of(bare::property(&mut self.words, column, column_type, bits, text, buffer))
+        let mut place = 0;
+        let number = bare::property(&mut self.words, column, column_type, bits, text, buffer, &mut place);
+        Refusal::of_properties(number, place)
     }
 
     /// Lays the feature's root down, and has it wait. Refused: 15, 12.

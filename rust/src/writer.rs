@@ -1,4 +1,7 @@
-use crate::{Event, Memory, Refusal, State, Taken, Tree, Value};
+use crate::{column_type, Event, Memory, Refusal, State, Taken, Tree, Value};
+
+/// No column's type, which is refused as malformed when its turn comes.
+const NO_TYPE: u8 = 255;
 
 /// A writer of features over memory that is lent to it. Its memory is its own while it lives, so what the state uses is kept.
 pub struct Writer<'a> {
@@ -37,6 +40,13 @@ impl<'a> Writer<'a> {
     pub fn property(&mut self, column: u32, value: Value) -> Result<(), Refusal> {
         let (column_type, bits, text) = value.parts();
         self.state.property(column, column_type, bits, text, self.properties)
+    }
+
+    /// A text as it was typed or sent, for a type from 11 to 14; other types are malformed. Where its bytes are not UTF-8 the
+    /// refusal has the place.
+    pub fn text(&mut self, column: u32, column_type: u8, text: &[u8]) -> Result<(), Refusal> {
+        let column_type = if column_type < column_type::STRING { NO_TYPE } else { column_type };
+        self.state.property(column, column_type, 0, text, self.properties)
     }
 
     /// Ends the feature, which then waits for [`Writer::next_feature`].

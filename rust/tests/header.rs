@@ -56,7 +56,7 @@ const REFUSALS: [Refusal; 18] = [
     Refusal::TypeUnknown,
     Refusal::TypeNotACurve,
     Refusal::TypesMixed,
-    Refusal::NotUtf8,
+    Refusal::NotUtf8 { at: 0 },
     Refusal::PastList,
     Refusal::BadEnd,
     Refusal::LogFull,

@@ -48,10 +48,10 @@ fn types_mixed() {
 #[test]
 fn not_utf8() {
     let mut state = State::start(0, false, false);
-    let refused = state.property(0, column_type::STRING, 0, &[0xc3], &mut [0; 16]);
-    assert_eq!(refused, Err(Refusal::NotUtf8));
+    let refused = state.property(0, column_type::STRING, 0, &[0x61, 0xc3], &mut [0; 16]);
+    assert_eq!(refused, Err(Refusal::NotUtf8 { at: 1 }));
     let read = read_properties(&[0, 0, 1, 0, 0, 0, 0xff], Some(&[column_type::STRING]), None, &mut [0; 16]);
-    assert_eq!(read.answer, Err(Refusal::NotUtf8));
+    assert_eq!(read.answer, Err(Refusal::NotUtf8 { at: 0 }));
 }
 
 #[test]
@@ -177,5 +177,6 @@ fn words_and_numbers() {
     assert_eq!(Refusal::BadEnd.to_string(), "8: an end that is 2^31 or larger, or less than the end before it");
     assert_eq!(Refusal::ColumnTooLarge.to_string(), "16: column number above 65,535");
     assert_eq!(Refusal::OtherFeature.to_string(), "17: an event of another feature");
+    assert_eq!(Refusal::NotUtf8 { at: 7 }.to_string(), "6: text is not UTF-8 at byte 7");
     assert_eq!((Refusal::PartsAbsent.number(), Refusal::ColumnUnknown.number()), (2, 2));
 }

@@ -11,7 +11,8 @@ ghost use mathlib.Core.Path.{_≡_};
 ghost use Rattle.laws.specs.Cut.{Said};
 ghost use Rattle.store.specs.Lists.{poolsOf, recordWith};
 ghost use Rattle.log.specs.Log.{events as eventRecords};
-ghost use Rattle.property_reader.specs.Reading.{reading, stopped as stopping};
+ghost use Rattle.property_value.specs.Value.{placed};
+ghost use Rattle.property_reader.specs.Reading.{reading, badIn, stopped as stopping};
 ghost use Rattle.log.specs.Values.{values};
 ghost use Rattle.property_writer.specs.Writing.{bytesAfter};
 ghost use Rattle.reader.specs.Reading.{readS};
@@ -19,7 +20,7 @@ ghost use Rattle.record_box.specs.Boxed.{boxOf};
 ghost use Rattle.writing.specs.State.{memOf};
 ghost use Rattle.writing.specs.Calls.{started, eventCall, finishCall, nextCall};
 ghost use Rattle.runs.specs.Events.{eventsCall};
-ghost use Rattle.writer.specs.Property.{propertyCall};
+ghost use Rattle.writer.specs.Property.{propertyCall, propertyPlace};
 ghost use Rattle.kinds.specs.Flags.{flagsOf};
 ghost use Rattle.bbox.specs.Edges.{edgesOf};
 ghost use Rattle.as_words.specs.Words.{stateOf, wordsOf, wordsAfter};
@@ -90,7 +91,8 @@ pub extern "C" fn bintolage_events(
     keep_all(state, taken, took)
 }
 
-// Lays a value down after the feature's other property bytes. Refused: 15, 16, 11, 6, 12.
+// Lays a value down after the feature's other property bytes. With 6 the place is that of the text's first bad byte, counted from the
+// text's first; with any other answer it is 0. Refused: 15, 16, 11, 6, 12.
 #[no_mangle]
 pub extern "C" fn bintolage_property(
     state: &mut StateWords,
@@ -99,6 +101,7 @@ pub extern "C" fn bintolage_property(
     bits: u64,
     text: &[u8],
     buffer: &mut [u8],
+    place: &mut usize,
 ) -> u8
     ensures answer { λ r.
         let call = propertyCall (stateOf (now (state .entry))) column «column_type» bits (now (text .entry)) (now (buffer .entry)) in
@@ -108,10 +111,14 @@ pub extern "C" fn bintolage_property(
         ⌜ now (state .exit) ≡ wordsAfter (now (state .entry)) call ⌝ }
     ensures bytes { λ _. let s = stateOf (now (state .entry)) in
         ⌜ now (buffer .exit) ≡ bytesAfter (s .waiting) (s .properties) column «column_type» bits (now (text .entry)) (now (buffer .entry)) ⌝ }
+    ensures place { λ _.
+        ⌜ now (place .exit) ≡ propertyPlace (stateOf (now (state .entry))) column «column_type» bits (now (text .entry)) (now (buffer .entry)) ⌝ }
 {
     let before = *state;
     let put = writer::property(state_of(before), column, column_type, bits, text, buffer);
-    keep(state, put)
+    *place = put.place;
+    let wrote = put.wrote;
+    keep(state, wrote)
 }
 
 // Lays the feature's root down, and has it wait. Refused: 15, 12.
@@ -197,8 +204,9 @@ pub extern "C" fn bintolage_read(
     read.number
 }
 
-// The values of property bytes, as value records from the log's start, how many, and whether the reading
-// stopped after the named column (0 or 1).
+// The values of property bytes, as value records from the log's start, how many, and whether the reading stopped after the named column
+// (0 or 1). With 6 the place is that of the refused text's first bad byte, counted from the text's first; with any other answer it is 0.
+// Refused: 2, 14, 6, 9.
 #[no_mangle]
 pub extern "C" fn bintolage_read_properties(
     bytes: &[u8],
@@ -208,15 +216,19 @@ pub extern "C" fn bintolage_read_properties(
     log: &mut [u8],
     count: &mut u32,
     stopped: &mut u8,
+    place: &mut usize,
 ) -> u8
     ensures said { λ r. let script = reading (now (bytes .entry)) (yes «has_columns») (now (columns .entry)) stop in
         ⌜ Said values script (now (log .entry)) r (now (count .exit)) (now (log .exit)) ⌝ }
     ensures stop { λ r. let script = reading (now (bytes .entry)) (yes «has_columns») (now (columns .entry)) stop in
         ⌜ now (stopped .exit) ≡ one (stopping stop script r) ⌝ }
+    ensures place { λ r. let bad = badIn (now (bytes .entry)) (yes «has_columns») (now (columns .entry)) stop in
+        ⌜ now (place .exit) ≡ placed r bad ⌝ }
 {
     let read = property_reader::read_properties(bytes, has_columns != 0, columns, stop, log);
     *count = read.count as u32;
     *stopped = read.stopped as u8;
+    *place = read.place;
     read.number
 }
 

@@ -6,4 +6,5 @@ pub mod Stored
 pub mod Inhabited
 pub mod Bench
 pub mod Outcome
+pub mod Places
 pub mod Excluded

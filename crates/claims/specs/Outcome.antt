@@ -13,7 +13,8 @@ use Rattle.record_box.specs.declared.Boxed.{Boxed}
 use Rattle.record_box.specs.Boxed.{boxOf}
 use Rattle.reader.specs.Reading.{readS}
 use Rattle.property_writer.specs.Writing.{bytesAfter}
-use Rattle.property_reader.specs.Reading.{reading, stopped}
+use Rattle.property_value.specs.Value.{placed}
+use Rattle.property_reader.specs.Reading.{reading, badIn, stopped}
 use Rattle.log.specs.Values.{values}
 use Rattle.runs.specs.declared.took.Took.{Took}
 use Rattle.writing.specs.declared.state.State.{State}
@@ -21,7 +22,7 @@ use Rattle.writing.specs.declared.state.Wrote.{Wrote}
 use Rattle.writing.specs.State.{Mem, memOf, outcome, Outcome}
 use Rattle.writing.specs.Calls.{started, eventCall, finishCall, nextCall}
 use Rattle.runs.specs.Events.{Progress, progress, eventsCall}
-use Rattle.writer.specs.Property.{propertyCall}
+use Rattle.writer.specs.Property.{propertyCall, propertyPlace}
 use Rattle.bintolage.specs.Calls.{Kept, kept, Taken, taken}
 
 -- ---- a log: its bytes, and the answer's number and count
@@ -86,11 +87,11 @@ module _ (r r′ : Took) (table table′ xy xy′ ends ends′ z z′ m m′ t t
 pub start-once : (declared : ℕ) (detect promote : Bool) (s s′ : State) → s ≡ started declared detect promote → s′ ≡ started declared detect promote → s ≡ s′
 start-once declared detect promote s s′ h h′ = h ∙ sym h′
 
-pub property-once : (s : State) (column kind bits : ℕ) (text buffer : List ℕ) (r r′ : Wrote) (after after′ : List ℕ)
-    → r ≡ propertyCall s column kind bits text buffer → after ≡ bytesAfter (s .waiting) (s .properties) column kind bits text buffer
-    → r′ ≡ propertyCall s column kind bits text buffer → after′ ≡ bytesAfter (s .waiting) (s .properties) column kind bits text buffer
-    → (r ≡ r′) × (after ≡ after′)
-property-once s column kind bits text buffer r r′ after after′ h k h′ k′ = (h ∙ sym h′, k ∙ sym k′)
+pub property-once : (s : State) (column kind bits : ℕ) (text buffer : List ℕ) (r r′ : Wrote) (after after′ : List ℕ) (place place′ : ℕ)
+    → r ≡ propertyCall s column kind bits text buffer → after ≡ bytesAfter (s .waiting) (s .properties) column kind bits text buffer → place ≡ propertyPlace s column kind bits text buffer
+    → r′ ≡ propertyCall s column kind bits text buffer → after′ ≡ bytesAfter (s .waiting) (s .properties) column kind bits text buffer → place′ ≡ propertyPlace s column kind bits text buffer
+    → (r ≡ r′) × (after ≡ after′) × (place ≡ place′)
+property-once s column kind bits text buffer r r′ after after′ place place′ h k l h′ k′ l′ = (h ∙ sym h′, k ∙ sym k′, l ∙ sym l′)
 
 -- ---- the readers
 module _ (number number′ count count′ : ℕ) (log log′ : List ℕ) where
@@ -99,13 +100,13 @@ module _ (number number′ count count′ : ℕ) (log log′ : List ℕ) where
       → (number ≡ number′) × (count ≡ count′) × (log ≡ log′)
   read-once F feature table P declared L = said-once (events feature) (readS F (recordWith table P) declared) L number number′ count count′ log log′
 
-  pub read-properties-once : (bytes : List ℕ) (has-columns : Bool) (columns : List ℕ) (stop : ℕ) (L : List ℕ) (at at′ : Bool)
-      → run values (reading bytes has-columns columns stop) L 0 ≡ out number count log → at ≡ stopped stop (reading bytes has-columns columns stop) number
-      → run values (reading bytes has-columns columns stop) L 0 ≡ out number′ count′ log′ → at′ ≡ stopped stop (reading bytes has-columns columns stop) number′
-      → (number ≡ number′) × (count ≡ count′) × (log ≡ log′) × (at ≡ at′)
-  read-properties-once bytes has-columns columns stop L at at′ h k h′ k′ =
+  pub read-properties-once : (bytes : List ℕ) (has-columns : Bool) (columns : List ℕ) (stop : ℕ) (L : List ℕ) (at at′ : Bool) (place place′ : ℕ)
+      → run values (reading bytes has-columns columns stop) L 0 ≡ out number count log → at ≡ stopped stop (reading bytes has-columns columns stop) number → place ≡ placed number (badIn bytes has-columns columns stop)
+      → run values (reading bytes has-columns columns stop) L 0 ≡ out number′ count′ log′ → at′ ≡ stopped stop (reading bytes has-columns columns stop) number′ → place′ ≡ placed number′ (badIn bytes has-columns columns stop)
+      → (number ≡ number′) × (count ≡ count′) × (log ≡ log′) × (at ≡ at′) × (place ≡ place′)
+  read-properties-once bytes has-columns columns stop L at at′ place place′ h k l h′ k′ l′ =
       let o = ran-once values (reading bytes has-columns columns stop) L number number′ count count′ log log′ h h′ in
-      (o .0, o .1, o .2, k ∙ ap (stopped stop (reading bytes has-columns columns stop)) (o .0) ∙ sym k′)
+      (o .0, o .1, o .2, k ∙ ap (stopped stop (reading bytes has-columns columns stop)) (o .0) ∙ sym k′, l ∙ ap (λ (n : ℕ). placed n (badIn bytes has-columns columns stop)) (o .0) ∙ sym l′)
 
 pub box-once : (table : List ℕ) (P : Pools) (n : ℕ) (b b′ : Boxed) → b ≡ boxOf (recordWith table P) n → b′ ≡ boxOf (recordWith table P) n → b ≡ b′
 box-once table P n b b′ h h′ = h ∙ sym h′

@@ -10,7 +10,7 @@ use Rattle.laws.specs.Every.{never}
 use Rattle.kinds.specs.declared.value.Value.{Value as Record}
 use Rattle.property_value.specs.Column.{widthOf}
 use Rattle.property_value.specs.Value.{wordOf}
-use Rattle.property_reader.specs.Reading.{numberAt, valueAt, itemAt, onItem, propertiesUpTo, propertiesFrom, reading}
+use Rattle.property_reader.specs.Reading.{numberAt, valueAt, itemAt, onItem, onUpTo, onFrom, onBytes, reading}
 use Rattle.geometries.specs.Told.{told}
 use Rattle.format.specs.Properties.{Value, number, sized, formOf, sizedType, typeOf, valueBytes, Property, bufferOf, AllKeyed}
 use Rattle.format.specs.PropertiesKept.{recordOf, recordsFrom, formed, sized-above, properties-read}
@@ -49,17 +49,17 @@ only-one columns bytes kind word fit low read ps q e = sym e ∙ go ps (sym (pro
 
 -- a Bool of 7 is true
 pub bool-seven : Stray (2 ∷ []) (0 ∷ 0 ∷ 7 ∷ []) (oneByte 2 1 ∷ [])
-unfolding reading propertiesFrom propertiesUpTo onItem itemAt valueAt numberAt wordOf widthOf
+unfolding onBytes onFrom onUpTo onItem itemAt valueAt numberAt wordOf widthOf
 bool-seven = record { read = refl; no-buffer = λ ps q e. let f = only-one (2 ∷ []) (0 ∷ 0 ∷ 7 ∷ []) 2 1 (omega arith) (omega arith) refl ps q e in let z : _≡_ {A = ℕ} 7 1 = cc in omega arith }
 
 -- a byte that is left over is not looked at
 pub trailing-byte : Stray (1 ∷ []) (0 ∷ 0 ∷ 5 ∷ 7 ∷ []) (oneByte 1 5 ∷ [])
-unfolding reading propertiesFrom propertiesUpTo onItem itemAt valueAt numberAt wordOf widthOf
+unfolding onBytes onFrom onUpTo onItem itemAt valueAt numberAt wordOf widthOf
 trailing-byte = record { read = refl; no-buffer = λ ps q e. let f = only-one (1 ∷ []) (0 ∷ 0 ∷ 5 ∷ 7 ∷ []) 1 5 (omega arith) (omega arith) refl ps q e in never (cc) }
 
 -- a column of a type above 14 has no value, and takes no bytes
 pub type-above : Stray (15 ∷ []) (0 ∷ 0 ∷ []) []
-unfolding reading propertiesFrom propertiesUpTo onItem itemAt valueAt
+unfolding onBytes onFrom onUpTo onItem itemAt valueAt
 type-above = record { read = refl; no-buffer = go }
   where
     known : (v : Value) → typeOf v ≡ 15 → ⊥

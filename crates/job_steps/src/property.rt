@@ -16,6 +16,7 @@ use job_file::value_of;
 use kinds::refusal;
 use report::Properties;
 use report::first;
+use report::show_bad_text;
 use report::show_properties;
 
 // For property bytes, for a text or value records, and for the values as they are to come back.
@@ -46,21 +47,35 @@ fn mistyped(work: Work) -> Work {
     after
 }
 
-// `room` begins with the property's text, and `given` has the values as they are to come back.
+// `columns` has the types and names, `room` begins with the property's text, and `given` has the values as they are to come back.
 fn write_property(
     work: Work,
     state: &mut StateWords,
     p: Property,
+    columns: &[u8],
     room: &[u8],
     bytes: &mut [u8],
     given: &mut [u8],
 ) -> Work {
     let used = state[PROPERTIES];
     let text = first(room, p.length);
-    let number = bintolage::bintolage_property(state, p.column, p.kind, p.bits, text, bytes);
+    let mut place = 0;
+    let number = bintolage::bintolage_property(
+        state,
+        p.column,
+        p.kind,
+        p.bits,
+        text,
+        bytes,
+        &mut place,
+    );
     let value = value_of(p, used, state[PROPERTIES]);
     keep(given, work.properties, value);
-    after_property(work, number)
+    let after = after_property(work, number);
+    if number == refusal::NOT_UTF8 {
+        show_bad_text(columns, value.column, text, place);
+    }
+    after
 }
 
 // Takes a property, if it is its turn: `columns` has the type of each column, of which there are `count`.
@@ -86,7 +101,7 @@ pub fn take_property(
     if !is_of_type(columns, count, p.column, p.kind) {
         return mistyped(after);
     }
-    write_property(after, state, p, room, bytes, given)
+    write_property(after, state, p, columns, room, bytes, given)
 }
 
 // Shows the properties as they come back, if it is their turn: so many bytes of them are used.

@@ -91,3 +91,12 @@ module _ {A : Type 0} (F : Format A) where
   pub one-put : (a : A) (L : List ℕ) (n : ℕ) → roomAt (F .wide) L n ≡ true → run (one a) L n ≡ out 0 (n + 1) (put L n a)
   unfolding run
   one-put a L n h = rw h
+
+  -- nothing but a full log refuses one record
+  pub one-nine : (a : A) (L : List ℕ) (n : ℕ) {c n′ : ℕ} {L′ : List ℕ} → run (one a) L n ≡ out c n′ L′ → (c ≡ 0 → ⊥) → c ≡ 9
+  unfolding run
+  one-nine a L n {c} {n′} {L′} h r = go (roomAt (F .wide) L n) h
+    where
+      go : (b : Bool) → cond b (out 0 (n + 1) (put L n a)) (out 9 n L) ≡ out c n′ L′ → c ≡ 9
+      go true h = let z : c ≡ 0 = cc in absurd (r z)
+      go false h = cc

@@ -1,4 +1,5 @@
 pub mod ReadBack
 pub mod Readings
+pub mod Places
 pub mod RoundTrip
 pub mod Examples

@@ -24,7 +24,9 @@ const STOP: usize = 7;
 
 const BYTE_COUNT: usize = 8;
 
-const COLUMNS: usize = 9;
+const PLACE: usize = 9;
+
+const COLUMNS: usize = 10;
 
 pub fn read(case: &[u8], memory: &mut [u8]) -> u8 {
     let length = number(case, LOG_LENGTH);
@@ -63,5 +65,6 @@ fn differences(answer: PropertiesRead, log: &[u8], case: &[u8]) -> u8 {
     )
         | unless(answer.count == number(case, COUNT), difference::COUNT)
         | unless(answer.stopped == stopped, difference::ANSWER)
+        | unless(answer.place == number(case, PLACE), difference::ANSWER)
         | unless(replay::holds(log, 0, records), difference::MEMORY)
 }

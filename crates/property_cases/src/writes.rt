@@ -28,7 +28,9 @@ const BUFFER_LENGTH: usize = 9;
 
 const TEXT_LENGTH: usize = 10;
 
-const TEXT: usize = 11;
+const PLACE: usize = 11;
+
+const TEXT: usize = 12;
 
 pub fn written(case: &[u8], memory: &mut [u8]) -> u8 {
     let length = number(case, BUFFER_LENGTH);
@@ -66,6 +68,7 @@ fn differences(answer: PropertyPut, buffer: &[u8], case: &[u8]) -> u8 {
             answer.used as usize == number(case, USED_AFTER),
             difference::COUNT,
         )
+        | unless(answer.place == number(case, PLACE), difference::ANSWER)
         | unless(
             replay::holds(buffer, number(case, USED), laid),
             difference::MEMORY,

@@ -1,4 +1,4 @@
--- Property bytes read: SPEC 9.6 to 9.11. What a reading has to say is a script of values, and `run values` of it says what the log then holds.
+-- Property bytes read: SPEC 9.6 to 9.11, 9.13. What a reading has to say is a script of values, and `run values` of it says what the log then holds.
 use mathlib.Core.Bool.{Bool, false, cond, not, _&&_, _||_}
 use mathlib.Core.List.{List}
 use Prim.Native.Nat.{ℕ, zero, suc, _+_, _-_}
@@ -7,10 +7,11 @@ use lib.ListN.{length, getD, take, drop}
 use Rattle.laws.specs.Bytes.{wordAt}
 use Rattle.laws.specs.Script.{Script, stop, say}
 use Rattle.kinds.specs.declared.value.Value.{Value}
+use Rattle.utf8.specs.Utf8.{firstBad}
 use Rattle.property_value.specs.Column.{widthOf}
 use Rattle.property_value.specs.Value.{textOk, wordOf}
 use Rattle.property_reader.specs.declared.item.Item.{Item}
-use Rattle.property_reader.specs.declared.item.Item.the-variants.{End, Refused, Skipped, Found}
+use Rattle.property_reader.specs.declared.item.Item.the-variants.{End, Refused, NotUtf8, Skipped, Found}
 
 abbrev pub valueOf : ℕ → ℕ → ℕ → ℕ → Value
 valueOf column kind len word = record { column = column; kind = kind; len = len; word = word }
@@ -23,11 +24,12 @@ numberAt bytes column kind at =
     cond (ltb (length bytes - at) (widthOf kind)) (Refused 14)
     (Found (valueOf column kind (widthOf kind) (wordOf kind (wordAt (widthOf kind) bytes at))) (at + widthOf kind))
 
--- `len` bytes of types 11 to 14: the word is their start within the property bytes
+-- `len` bytes of types 11 to 14: the word is their start within the property bytes, and a bad byte's place is counted from that start
 unfoldable pub bytesAt : List ℕ → ℕ → ℕ → ℕ → ℕ → Item
 bytesAt bytes column kind start len =
+    let text = take len (drop start bytes) in
     cond (ltb (length bytes - start) len) (Refused 14)
-    (cond (not (textOk kind (take len (drop start bytes)))) (Refused 6)
+    (cond (not (textOk kind text)) (NotUtf8 (firstBad text))
     (Found (valueOf column kind len start) (start + len)))
 
 -- a length in four bytes comes first (SPEC 9.9)
@@ -50,27 +52,56 @@ itemAt bytes columns at =
     (cond (leb (length columns) (wordAt 2 bytes at)) (Refused 2)
     (valueAt bytes (wordAt 2 bytes at) (getD columns (wordAt 2 bytes at) 0) (at + 2)))
 
--- ---- a reading
+-- ---- a reading, by what comes of it: `ended` by its number and a bad byte's place, `said` by a value and what comes behind it
 
--- the reading ends after a value of the named column (SPEC 9.11)
-unfoldable pub onItem : ℕ → (ℕ → Script Value) → Item → Script Value
-onItem last later End = stop 0
-onItem last later (Refused number) = stop number
-onItem last later (Skipped next) = later next
-onItem last later (Found value next) = say value (cond (eqb (value .column) last) (stop 0) (later next))
+module _ {R : Type 0} (ended : ℕ → ℕ → R) (said : Value → R → R) where
+  -- the reading ends after a value of the named column (SPEC 9.11)
+  unfoldable pub onItem : ℕ → (ℕ → R) → Item → R
+  onItem last later End = ended 0 0
+  onItem last later (Refused number) = ended number 0
+  onItem last later (NotUtf8 place) = ended 6 place
+  onItem last later (Skipped next) = later next
+  onItem last later (Found value next) = said value (cond (eqb (value .column) last) (ended 0 0) (later next))
 
--- the properties from a place on, at most `most` of them
-unfoldable pub propertiesUpTo : ℕ → List ℕ → List ℕ → ℕ → ℕ → Script Value
-propertiesUpTo zero bytes columns last at = stop 0
-propertiesUpTo (suc most) bytes columns last at = onItem last (propertiesUpTo most bytes columns last) (itemAt bytes columns at)
+  -- from a place on, by at most `most` items
+  unfoldable pub onUpTo : ℕ → List ℕ → List ℕ → ℕ → ℕ → R
+  onUpTo zero bytes columns last at = ended 0 0
+  onUpTo (suc most) bytes columns last at = onItem last (onUpTo most bytes columns last) (itemAt bytes columns at)
 
--- all properties from a place on: there are no more than bytes
-unfoldable pub propertiesFrom : List ℕ → List ℕ → ℕ → ℕ → Script Value
-propertiesFrom bytes columns last at = propertiesUpTo (length bytes - at) bytes columns last at
+  -- by all items from a place on: there are no more than bytes
+  unfoldable pub onFrom : List ℕ → List ℕ → ℕ → ℕ → R
+  onFrom bytes columns last at = onUpTo (length bytes - at) bytes columns last at
 
--- with no column list, nothing (SPEC 9.6); 65,536 property bytes are usable (SPEC 4.2)
-unfoldable pub reading : List ℕ → Bool → List ℕ → ℕ → Script Value
-reading bytes hasColumns columns last = cond hasColumns (propertiesFrom (take 65536 bytes) columns last 0) (stop 0)
+  -- with no column list, nothing (SPEC 9.6); 65,536 property bytes are usable (SPEC 4.2)
+  unfoldable pub onBytes : List ℕ → Bool → List ℕ → ℕ → R
+  onBytes bytes hasColumns columns last = cond hasColumns (onFrom (take 65536 bytes) columns last 0) (ended 0 0)
+
+-- ---- what it has to say
+
+abbrev pub endScript : ℕ → ℕ → Script Value
+endScript number place = stop number
+
+abbrev pub propertiesFrom : List ℕ → List ℕ → ℕ → ℕ → Script Value
+propertiesFrom = onFrom endScript say
+
+abbrev pub reading : List ℕ → Bool → List ℕ → ℕ → Script Value
+reading = onBytes endScript say
+
+-- ---- the place of the bad byte for which it ends, and 0 where it ends otherwise (SPEC 9.13). It is `placed` by the answer: a log that is full before gives 9.
+
+abbrev pub endPlace : ℕ → ℕ → ℕ
+endPlace number place = place
+
+abbrev pub keepPlace : Value → ℕ → ℕ
+keepPlace value place = place
+
+abbrev pub badFrom : List ℕ → List ℕ → ℕ → ℕ → ℕ
+badFrom = onFrom endPlace keepPlace
+
+abbrev pub badIn : List ℕ → Bool → List ℕ → ℕ → ℕ
+badIn = onBytes endPlace keepPlace
+
+-- ---- whether it stopped
 
 -- a value of this column is said
 unfoldable pub says : ℕ → Script Value → Bool

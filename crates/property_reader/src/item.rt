@@ -5,9 +5,10 @@ use kinds::value::Value;
 use numbers::u16_at;
 use numbers::u32_at;
 use numbers::u64_at;
-use property_value::text_ok;
+use property_value::bad_text;
 use property_value::width;
 use property_value::word_of;
+use utf8::Bad;
 ghost use mathlib.Core.Path.{_≡_};
 ghost use mathlib.Core.Bool.{true};
 ghost use Prim.Native.Nat.{_+_, _≤_};
@@ -16,10 +17,11 @@ ghost use Rattle.laws.specs.Bytes.{wordAt};
 ghost use Rattle.property_value.specs.Column.{isWidth};
 ghost use Rattle.property_reader.specs.Reading.{numberAt, textAt, bytesAt, valueAt, itemAt};
 
-// A value is found with the place after it.
+// A text that is not UTF-8 has the place of its first bad byte, counted from its own first; a value is found with the place after it.
 pub enum Item {
     End,
     Refused(u8),
+    NotUtf8(usize),
     Skipped(usize),
     Found(Value, usize),
 }
@@ -110,8 +112,9 @@ fn bytes_at(bytes: &[u8], column: u16, kind: u8, start: usize, len: u32) -> Item
         return Item::Refused(refusal::VALUE_CUT);
     }
     let end = start + count;
-    if !text_ok(kind, &bytes[start..end]) {
-        return Item::Refused(refusal::NOT_UTF8);
+    let bad = bad_text(kind, &bytes[start..end]);
+    if let Bad::At(place) = bad {
+        return Item::NotUtf8(place);
     }
     let value = Value {
         column,

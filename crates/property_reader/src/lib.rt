@@ -10,13 +10,16 @@ ghost use mathlib.Core.Path.{_≡_};
 ghost use mathlib.Core.Bool.{false};
 ghost use Rattle.laws.specs.Script.{out, run};
 ghost use Rattle.log.specs.Values.{values};
-ghost use Rattle.property_reader.specs.Reading.{propertiesFrom, reading, stopped};
+ghost use Rattle.property_value.specs.Value.{placed};
+ghost use Rattle.property_reader.specs.Reading.{propertiesFrom, badFrom, reading, badIn, stopped};
 
-// The answer's number and count of log records, and whether the reading stopped after the column that the caller named.
+// The answer's number and count of log records; whether the reading stopped after the column that the caller named; and with 6 the place
+// of the refused text's first bad byte, counted from the text's first, with any other number 0.
 pub struct PropertiesRead {
     pub number: u8,
     pub count: usize,
     pub stopped: bool,
+    pub place: usize,
 }
 
 // Reads the usable property bytes into a log. Where there is no column list, nothing.
@@ -30,9 +33,10 @@ pub fn read_properties(
     ensures { λ r. let s = reading (now (bytes .entry)) «has_columns» (now (columns .entry)) stop in
         ⌜ run values s (now (log .entry)) 0 ≡ out (r .number) (r .count) (now (log .exit)) ⌝ }
     ensures { λ r. ⌜ r .stopped ≡ stopped stop (reading (now (bytes .entry)) «has_columns» (now (columns .entry)) stop) (r .number) ⌝ }
+    ensures { λ r. ⌜ r .place ≡ placed (r .number) (badIn (now (bytes .entry)) «has_columns» (now (columns .entry)) stop) ⌝ }
 {
     if !has_columns {
-        return unstopped(refusal::DONE, 0);
+        return unplaced(refusal::DONE, 0);
     }
     let end = usable_length(bytes.len());
     read_all(&bytes[0..end], columns, stop, log)
@@ -42,6 +46,7 @@ fn read_all(bytes: &[u8], columns: &[u8], stop: u32, log: &mut [u8]) -> Properti
     ensures { λ r. let s = propertiesFrom (now (bytes .entry)) (now (columns .entry)) stop 0 in
         ⌜ run values s (now (log .entry)) 0 ≡ out (r .number) (r .count) (now (log .exit)) ⌝ }
     ensures { λ r. ⌜ r .stopped ≡ stopped stop (propertiesFrom (now (bytes .entry)) (now (columns .entry)) stop 0) (r .number) ⌝ }
+    ensures { λ r. ⌜ r .place ≡ placed (r .number) (badFrom (now (bytes .entry)) (now (columns .entry)) stop 0) ⌝ }
 {
     let mut at = 0;
     let mut count = 0;
@@ -49,10 +54,18 @@ fn read_all(bytes: &[u8], columns: &[u8], stop: u32, log: &mut [u8]) -> Properti
         let item = item_at(bytes, columns, at);
         match item {
             Item::End => {
-                return unstopped(refusal::DONE, count);
+                return unplaced(refusal::DONE, count);
             }
             Item::Refused(number) => {
-                return unstopped(number, count);
+                return unplaced(number, count);
+            }
+            Item::NotUtf8(place) => {
+                return PropertiesRead {
+                    number: refusal::NOT_UTF8,
+                    count,
+                    stopped: false,
+                    place,
+                };
             }
             Item::Skipped(next) => {
                 at = next;
@@ -60,13 +73,14 @@ fn read_all(bytes: &[u8], columns: &[u8], stop: u32, log: &mut [u8]) -> Properti
             Item::Found(value, next) => {
                 let said = say_value(log, count, value);
                 if said.number != refusal::DONE {
-                    return unstopped(said.number, said.count);
+                    return unplaced(said.number, said.count);
                 }
                 if value.column as u32 == stop {
                     return PropertiesRead {
                         number: refusal::DONE,
                         count: said.count,
                         stopped: true,
+                        place: 0,
                     };
                 }
                 count = said.count;
@@ -76,12 +90,13 @@ fn read_all(bytes: &[u8], columns: &[u8], stop: u32, log: &mut [u8]) -> Properti
     }
 }
 
-fn unstopped(number: u8, count: usize) -> PropertiesRead
-    ensures { λ r. ⌜ r ≡ record { number = number; count = count; stopped = false } ⌝ }
+fn unplaced(number: u8, count: usize) -> PropertiesRead
+    ensures { λ r. ⌜ r ≡ record { number = number; count = count; stopped = false; place = 0 } ⌝ }
 {
     PropertiesRead {
         number,
         count,
         stopped: false,
+        place: 0,
     }
 }

@@ -1,13 +1,18 @@
 -- Laws of values.
 use mathlib.Core.Path.{_≡_, refl, sym}
 use mathlib.Core.Bool.{Bool, true, false, cond, _||_}
+use mathlib.Core.List.{List}
 use Prim.Native.Nat.{ℕ, _^_, _≤_, _<_}
 use native.Mathlib.Omega.{arith}
 use lib.Dec.{leb, ltb, eqb}
 use borrow.Author.Tests.{eqb-true, eqb-false, ltb-false, leb-false, le-leb, lt-leb, le-ltb, eq-eqb, ne-eqb}
-use Rattle.laws.specs.Every.{neither, fails}
-use Rattle.property_value.specs.Column.{widthOf}
-use Rattle.property_value.specs.Value.{malformed, wordOf}
+use Rattle.laws.specs.Every.{never, neither, fails}
+use Rattle.utf8.specs.declared.Bad.{Bad}
+use Rattle.utf8.specs.declared.Bad.the-variants.{Nowhere, At}
+use Rattle.utf8.specs.Utf8.{firstBad, isUtf8, BadIs}
+use Rattle.utf8.specs.Meaning.{text-utf8, bad-first, at-bad}
+use Rattle.property_value.specs.Column.{widthOf, isText}
+use Rattle.property_value.specs.Value.{malformed, textOk, Checked, placed, wordOf}
 
 -- ---- a number's bits
 
@@ -46,3 +51,26 @@ word-back kind bits h = go (eqb kind 2) refl (eqb bits 0) refl
     go true e true f = sym (eqb-true bits 0 f)
     go true e false f = let k = h (eqb-true kind 2 e) in let m = eqb-false bits 0 f in omega arith
     go false e z f = refl
+
+-- ---- a text
+
+-- one that is refused is of a type that is held to be UTF-8, and its first bad byte is where firstBad says
+pub text-fails : (kind : ℕ) (text : List ℕ) → textOk kind text ≡ false → (isText kind ≡ true) × BadIs text (At (firstBad text))
+unfolding textOk
+text-fails kind text e = go (isText kind) refl e
+  where
+    go : (t : Bool) → isText kind ≡ t → cond t (isUtf8 text) true ≡ false → (isText kind ≡ true) × BadIs text (At (firstBad text))
+    go true k e = (k, bad-first text e)
+    go false k e = absurd (never (sym e))
+
+-- what is found of the bytes, by a type that is held to be UTF-8
+pub checked : (kind : ℕ) (text : List ℕ) (b : Bad) → isText kind ≡ true → BadIs text b → Checked kind text b
+unfolding textOk
+checked kind text Nowhere k t = rw k (text-utf8 text t)
+checked kind text (At place) k t = rw k (at-bad text place t)
+
+-- ---- a place
+
+pub not-placed : (number bad : ℕ) → (number ≡ 6 → ⊥) → placed number bad ≡ 0
+unfolding placed
+not-placed number bad n = rw (ne-eqb number 6 n)

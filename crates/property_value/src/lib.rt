@@ -5,6 +5,6 @@ mod value;
 
 pub use column::width;
 pub use room::usable_length;
+pub use value::bad_text;
 pub use value::is_malformed;
-pub use value::text_ok;
 pub use value::word_of;

@@ -1,9 +1,10 @@
 // Which bits and bytes are a value of a column type, and the word that a number is read to.
 use crate::column::is_text;
 use kinds::column_type;
-use utf8::is_utf8;
+use utf8::Bad;
+use utf8::first_bad;
 ghost use mathlib.Core.Path.{_≡_};
-ghost use Rattle.property_value.specs.Value.{malformed, textOk, wordOf};
+ghost use Rattle.property_value.specs.Value.{malformed, Checked, wordOf};
 
 // Eight bytes hold any bits, and those of a text are passed over.
 pub fn is_malformed(kind: u8, bits: u64) -> bool
@@ -32,12 +33,12 @@ pub fn word_of(kind: u8, bits: u64) -> u64
     if bits == 0 { 0 } else { 1 }
 }
 
-// Binary may hold any bytes.
-pub fn text_ok(kind: u8, bytes: &[u8]) -> bool
-    ensures { λ r. ⌜ r ≡ textOk kind (now (bytes .entry)) ⌝ }
+// Where a value's bytes cease to be what its type holds them to be. Binary may hold any bytes.
+pub fn bad_text(kind: u8, bytes: &[u8]) -> Bad
+    ensures { λ r. ⌜ Checked kind (now (bytes .entry)) r ⌝ }
 {
     if is_text(kind) {
-        return is_utf8(bytes);
+        return first_bad(bytes);
     }
-    true
+    Bad::Nowhere
 }

@@ -6,8 +6,9 @@ use lib.Dec.{leb, ltb, eqb}
 use lib.ListN.{length}
 use lib.Seq.{sets}
 use Rattle.laws.specs.Bytes.{le}
+use Rattle.utf8.specs.Utf8.{firstBad}
 use Rattle.property_value.specs.Column.{widthOf}
-use Rattle.property_value.specs.Value.{malformed, textOk}
+use Rattle.property_value.specs.Value.{malformed, textOk, placed}
 use Rattle.property_writer.specs.declared.PropertyPut.{PropertyPut}
 
 -- a text as bytes: a u32 length first
@@ -36,10 +37,15 @@ refusalOf waiting used column kind bits text lent =
 abbrev pub settled : {A : Type 0} → ℕ → A → A → A
 settled number written kept = cond (eqb number 0) written kept
 
+-- what a write answers; the place is counted from the text's first byte
 unfoldable pub putOf : Bool → ℕ → ℕ → ℕ → ℕ → List ℕ → List ℕ → PropertyPut
 putOf waiting used column kind bits text buffer =
     let number = refusalOf waiting used column kind bits text (length buffer) in
-    record { number = number; used = settled number (used + length (propertyBytes column kind bits text)) used }
+    record {
+      number = number;
+      used = settled number (used + length (propertyBytes column kind bits text)) used;
+      place = placed number (firstBad text);
+    }
 
 unfoldable pub bytesAfter : Bool → ℕ → ℕ → ℕ → ℕ → List ℕ → List ℕ → List ℕ
 bytesAfter waiting used column kind bits text buffer =

@@ -11,9 +11,10 @@ use lib.Seq.{sets, take-append-le, drop-append-le}
 use borrow.Author.Tests.{eqb-true, ltb-false, le-leb, lt-leb, ne-eqb, not-false}
 use Rattle.laws.specs.Bytes.{le, length-le}
 use Rattle.laws.specs.Runs.{sets-split, take-sets, drop-sets}
+use Rattle.utf8.specs.Utf8.{firstBad}
 use Rattle.property_value.specs.Column.{widthOf}
 use Rattle.property_value.specs.ColumnLaws.{width-most}
-use Rattle.property_value.specs.Value.{malformed, textOk}
+use Rattle.property_value.specs.Value.{malformed, textOk, placed}
 use Rattle.property_value.specs.ValueLaws.{well-formed}
 use Rattle.property_writer.specs.Writing.{textBytes, laidDown, propertyBytes, refusalOf, putOf, bytesAfter, propertyLength, Exact}
 use Rattle.property_writer.specs.declared.PropertyPut.{PropertyPut}
@@ -93,7 +94,7 @@ accepted waiting used column kind bits text lent done =
 
 pub refused : (waiting : Bool) (used column kind bits : ℕ) (text buffer : List ℕ) (number : ℕ) →
     number ≡ refusalOf waiting used column kind bits text (length buffer) → (number ≡ 0 → ⊥) →
-    (_≡_ {A = PropertyPut} (record { number = number; used = used }) (putOf waiting used column kind bits text buffer))
+    (_≡_ {A = PropertyPut} (record { number = number; used = used; place = placed number (firstBad text) }) (putOf waiting used column kind bits text buffer))
     × (buffer ≡ bytesAfter waiting used column kind bits text buffer)
 unfolding putOf bytesAfter
 refused waiting used column kind bits text buffer number e n =
@@ -102,8 +103,8 @@ refused waiting used column kind bits text buffer number e n =
 
 module _ (waiting : Bool) (used column kind bits : ℕ) (text buffer : List ℕ) (done : refusalOf waiting used column kind bits text (length buffer) ≡ 0) where
   -- what is used grows by the property's bytes
-  pub put-done : putOf waiting used column kind bits text buffer ≡ record { number = 0; used = used + length (propertyBytes column kind bits text) }
-  unfolding putOf
+  pub put-done : putOf waiting used column kind bits text buffer ≡ record { number = 0; used = used + length (propertyBytes column kind bits text); place = 0 }
+  unfolding putOf placed
   put-done = rw done
 
   pub bytes-done : bytesAfter waiting used column kind bits text buffer ≡ sets buffer used (propertyBytes column kind bits text)

@@ -4,18 +4,22 @@ mod lay;
 use kinds::column_type;
 use kinds::refusal;
 use lay::lay_property;
+use property_value::bad_text;
 use property_value::is_malformed;
-use property_value::text_ok;
 use property_value::usable_length;
 use property_value::width;
+use utf8::Bad;
 ghost use mathlib.Core.Path.{_≡_};
-ghost use Rattle.property_value.specs.Value.{textOk};
+ghost use Rattle.utf8.specs.Utf8.{firstBad};
+ghost use Rattle.property_value.specs.Value.{Checked, placed};
 ghost use Rattle.property_writer.specs.Writing.{refusalOf, putOf, bytesAfter, propertyLength};
 
-// The refusal's number, 0 where the property was written, and how many bytes of the buffer are used then.
+// The refusal's number, 0 where the property was written; how many bytes of the buffer are used then; and with 6 the place of the text's
+// first bad byte, counted from the text's first, with any other number 0.
 pub struct PropertyPut {
     pub number: u8,
     pub used: u32,
+    pub place: usize,
 }
 
 pub fn put_property(
@@ -30,18 +34,19 @@ pub fn put_property(
     ensures answer { λ r. ⌜ r ≡ putOf waiting used column kind bits (now (text .entry)) (now (buffer .entry)) ⌝ }
     ensures bytes { λ _. ⌜ now (buffer .exit) ≡ bytesAfter waiting used column kind bits (now (text .entry)) (now (buffer .entry)) ⌝ }
 {
-    let number = refusal_of(waiting, used, column, kind, bits, text, buffer.len());
-    if number != refusal::DONE {
-        return PropertyPut { number, used };
+    let refused = refusal_of(waiting, used, column, kind, bits, text, buffer.len());
+    if refused.number != refusal::DONE {
+        return refused;
     }
     lay_property(used as usize, column as u16, kind, bits, text, buffer);
     PropertyPut {
-        number,
+        number: refusal::DONE,
         used: used + property_length(kind, text) as u32,
+        place: 0,
     }
 }
 
-// Why a write is refused, or 0: all is settled here, so that a refused write changes nothing.
+// What a refused write answers, and 0 where it is none: all is settled here, so that a refused write changes nothing.
 // A text is read before its room is asked about, since that is the order of the refusals.
 fn refusal_of(
     waiting: bool,
@@ -51,35 +56,51 @@ fn refusal_of(
     bits: u64,
     text: &[u8],
     lent: usize,
-) -> u8
-    ensures { λ r. ⌜ r ≡ refusalOf waiting used column kind bits (now (text .entry)) lent ⌝ }
+) -> PropertyPut
+    ensures { λ r. let number = refusalOf waiting used column kind bits (now (text .entry)) lent in
+        ⌜ r ≡ record { number = number; used = used; place = placed number (firstBad (now (text .entry))) } ⌝ }
 {
     if waiting {
-        return refusal::NOT_ITS_TURN;
+        return unplaced(refusal::NOT_ITS_TURN, used);
     }
     if column > 65535 {
-        return refusal::COLUMN_TOO_LARGE;
+        return unplaced(refusal::COLUMN_TOO_LARGE, used);
     }
     if is_malformed(kind, bits) {
-        return refusal::MALFORMED;
+        return unplaced(refusal::MALFORMED, used);
     }
-    if !is_spelt(kind, text) {
-        return refusal::NOT_UTF8;
+    let bad = bad_if_text(kind, text);
+    if let Bad::At(place) = bad {
+        return PropertyPut {
+            number: refusal::NOT_UTF8,
+            used,
+            place,
+        };
     }
     if used as usize + property_length(kind, text) > usable_length(lent) {
-        return refusal::NO_ROOM;
+        return unplaced(refusal::NO_ROOM, used);
     }
-    refusal::DONE
+    unplaced(refusal::DONE, used)
 }
 
-// A number has no text, and is not handed to the check of one.
-fn is_spelt(kind: u8, text: &[u8]) -> bool
-    ensures { λ r. ⌜ r ≡ textOk kind (now (text .entry)) ⌝ }
+fn unplaced(number: u8, used: u32) -> PropertyPut
+    ensures { λ r. ⌜ r ≡ record { number = number; used = used; place = 0 } ⌝ }
+{
+    PropertyPut {
+        number,
+        used,
+        place: 0,
+    }
+}
+
+// A number has no text, and is spared the call.
+fn bad_if_text(kind: u8, text: &[u8]) -> Bad
+    ensures { λ r. ⌜ Checked kind (now (text .entry)) r ⌝ }
 {
     if kind < column_type::STRING {
-        return true;
+        return Bad::Nowhere;
     }
-    text_ok(kind, text)
+    bad_text(kind, text)
 }
 
 fn property_length(kind: u8, text: &[u8]) -> usize

@@ -9,7 +9,7 @@ pub const NUMBER: u8 = 1;
 // How many records or bytes the call says.
 pub const COUNT: u8 = 2;
 
-// What is handed back beside that: a state, a record, a box, whether a reading stopped.
+// What is handed back beside that: a state, a record, a box, whether a reading stopped, a place in a text.
 pub const ANSWER: u8 = 4;
 
 // What is left in the memory that was lent.

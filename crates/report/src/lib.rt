@@ -1,4 +1,5 @@
 // A finished feature, read back, judged and shown.
+mod bad_text;
 mod boxes;
 mod feature;
 mod names;
@@ -6,6 +7,7 @@ mod row;
 mod values;
 mod verdict;
 
+pub use bad_text::show_bad_text;
 pub use boxes::show_box;
 pub use feature::Feature;
 pub use feature::Properties;

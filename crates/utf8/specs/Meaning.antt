@@ -9,7 +9,9 @@ use lib.ListN.{length, take, drop, length-append, length-drop, take-append-drop}
 use lib.Seq.{take-add, drop-drop, take-length, length-take-le, drop-append-seam}
 use borrow.Author.Tests.{leb-true, le-leb, eqb-true, eqb-false, eq-eqb, ne-eqb}
 use Rattle.laws.specs.Every.{never, both, every, every-at, each-at}
-use Rattle.utf8.specs.Utf8.{_‥_, Row, rows, Fits, Fits.end, Fits.byte, Character, Text, Text.empty, Text.more, NoCharacter, TextEnds, has, opens, find, rowOf, begins, charLength, run, firstBad, isUtf8}
+use Rattle.utf8.specs.declared.Bad.{Bad}
+use Rattle.utf8.specs.declared.Bad.the-variants.{Nowhere, At}
+use Rattle.utf8.specs.Utf8.{_‥_, Row, rows, Fits, Fits.end, Fits.byte, Character, Text, Text.empty, Text.more, NoCharacter, TextEnds, has, opens, find, rowOf, begins, charLength, run, firstBad, isUtf8, BadIs}
 use Rattle.utf8.specs.Laws.{sameRow, same-row, char-within, bad-here, bad-later}
 
 -- A first byte is in one row only, and no row is empty.
@@ -168,6 +170,32 @@ utf8-text s e = rw (eqb-true (firstBad s) (length s) e, take-length s) at (text-
 pub text-utf8 : (s : List ℕ) → Text s → isUtf8 s ≡ true
 unfolding isUtf8 charLength
 text-utf8 s t = eq-eqb (firstBad s) (length s) (omega (arith, rw append-nil at (bad-after t []), bad-here [] refl))
+
+-- The first bad byte, by computing and by the grammar.
+
+pub bad-nowhere : (s : List ℕ) → firstBad s ≡ length s → BadIs s Nowhere
+unfolding isUtf8
+bad-nowhere s e = utf8-text s (eq-eqb (firstBad s) (length s) e)
+
+pub bad-at : (s : List ℕ) (place : ℕ) → firstBad s ≡ place → place < length s → BadIs s (At place)
+bad-at s place e h = let ends : TextEnds s place = rw e at (bad-ends s) in (h, ends .before, ends .after)
+
+pub bad-first : (s : List ℕ) → isUtf8 s ≡ false → BadIs s (At (firstBad s))
+unfolding isUtf8
+bad-first s e = let n = eqb-false (firstBad s) (length s) e in bad-at s (firstBad s) refl (omega (arith, bad-within s))
+
+pub at-bad : (s : List ℕ) (place : ℕ) → BadIs s (At place) → (isUtf8 s ≡ false) × (place ≡ firstBad s)
+unfolding isUtf8
+at-bad s place (h, before, after) =
+    let is : firstBad s ≡ place = ends-bad s place (record { within = omega arith; before = before; after = after }) in
+    (rw (is, ne-eqb place (length s) (λ same. omega arith)), sym is)
+
+-- there is one such answer
+pub bad-once : (s : List ℕ) (a b : Bad) → BadIs s a → BadIs s b → a ≡ b
+bad-once s Nowhere Nowhere t u = refl
+bad-once s Nowhere (At place) t u = absurd (never (sym (at-bad s place u .0) ∙ text-utf8 s t))
+bad-once s (At place) Nowhere t u = absurd (never (sym (at-bad s place t .0) ∙ text-utf8 s u))
+bad-once s (At place) (At other) t u = ap At (at-bad s place t .1 ∙ sym (at-bad s other u .1))
 
 -- For those who put texts together.
 

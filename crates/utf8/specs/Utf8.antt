@@ -2,9 +2,11 @@
 use mathlib.Core.Path.{_≡_}
 use mathlib.Core.Bool.{Bool, true, false, cond, _&&_}
 use mathlib.Core.List.{List, [], _∷_, _++_, List·Memᴰ}
-use Prim.Native.Nat.{ℕ, zero, suc, _+_, _≤_}
+use Prim.Native.Nat.{ℕ, zero, suc, _+_, _≤_, _<_}
 use lib.Dec.{leb, eqb}
 use lib.ListN.{length, take, drop, replicate}
+use Rattle.utf8.specs.declared.Bad.{Bad}
+use Rattle.utf8.specs.declared.Bad.the-variants.{Nowhere, At}
 
 infix 68 _‥_
 -- the bytes from the first to the last
@@ -60,6 +62,11 @@ pub record TextEnds (bytes : List ℕ) (at : ℕ) : Type 0 where
   pub within : at ≤ length bytes
   pub before : Text (take at bytes)
   pub after : NoCharacter (drop at bytes)
+
+-- the first bad byte of a list: there is none, and all is text; or it stands at a place, all before it is text, and no character begins there
+abbrev pub BadIs : List ℕ → Bad → Type 0
+BadIs bytes Nowhere = Text bytes
+BadIs bytes (At place) = (place < length bytes) × Text (take place bytes) × NoCharacter (drop place bytes)
 
 -- ---- the place where the characters end, by computing: `Meaning` proves that it is that of `TextEnds`
 

@@ -2,18 +2,18 @@
 ghost use mathlib.Core.Path.{_≡_};
 ghost use Prim.Native.Nat.{_≤_, _<_, _+_};
 ghost use lib.ListN.{length, drop};
-ghost use Rattle.utf8.specs.Utf8.{_‥_, has, tail, tails, second, rowOf, begins, charLength, firstBad, isUtf8};
+ghost use Rattle.utf8.specs.Utf8.{_‥_, has, tail, tails, second, rowOf, begins, charLength, BadIs};
 
-pub fn is_utf8(bytes: &[u8]) -> bool
-    ensures { λ r. ⌜ r ≡ isUtf8 (now (bytes .entry)) ⌝ }
-{
-    first_bad(bytes) == bytes.len()
+// Where bytes cease to be text.
+pub enum Bad {
+    Nowhere,
+    At(usize),
 }
 
-// The place of the first byte that begins no well-formed character, or the length where there is none.
+// The place of the first byte that begins no well-formed character, or that there is none.
 // Most bytes are ASCII, and go by one test.
-pub fn first_bad(bytes: &[u8]) -> usize
-    ensures { λ r. ⌜ r ≡ firstBad (now (bytes .entry)) ⌝ }
+pub fn first_bad(bytes: &[u8]) -> Bad
+    ensures { λ r. ⌜ BadIs (now (bytes .entry)) r ⌝ }
 {
     let mut at = 0;
     while at < bytes.len() {
@@ -22,12 +22,12 @@ pub fn first_bad(bytes: &[u8]) -> usize
         } else {
             let len = char_length(bytes, at);
             if len == 0 {
-                return at;
+                return Bad::At(at);
             }
             at += len;
         }
     }
-    at
+    Bad::Nowhere
 }
 
 // How many bytes the character at a place has, 0 where none begins there.

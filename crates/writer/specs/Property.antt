@@ -12,3 +12,7 @@ counted s put = wrote (put .number) (withProperties s (put .used))
 
 unfoldable pub propertyCall : State → ℕ → ℕ → ℕ → List ℕ → List ℕ → Wrote
 propertyCall s column kind bits text buffer = counted s (putOf (s .waiting) (s .properties) column kind bits text buffer)
+
+-- the place of the text's first bad byte where it is refused with 6, and else 0 (SPEC 9.13)
+unfoldable pub propertyPlace : State → ℕ → ℕ → ℕ → List ℕ → List ℕ → ℕ
+propertyPlace s column kind bits text buffer = putOf (s .waiting) (s .properties) column kind bits text buffer .place

@@ -3,11 +3,25 @@ use writing::state::State;
 use writing::state::Wrote;
 ghost use mathlib.Core.Path.{_≡_};
 ghost use Rattle.property_writer.specs.Writing.{bytesAfter};
-ghost use Rattle.writer.specs.Property.{propertyCall};
+ghost use Rattle.writer.specs.Property.{propertyCall, propertyPlace};
+
+// What every writing call answers; and with 6 the place of the text's first bad byte, counted from the text's first, else 0.
+pub struct PropertyWrote {
+    pub wrote: Wrote,
+    pub place: usize,
+}
 
 // Lays a value down after the feature's other property bytes. Refused: 15, 16, 11, 6, 12.
-pub fn property(s: State, column: u32, kind: u8, bits: u64, text: &[u8], buffer: &mut [u8]) -> Wrote
-    ensures answer { λ r. ⌜ r ≡ propertyCall s column kind bits (now (text .entry)) (now (buffer .entry)) ⌝ }
+pub fn property(
+    s: State,
+    column: u32,
+    kind: u8,
+    bits: u64,
+    text: &[u8],
+    buffer: &mut [u8],
+) -> PropertyWrote
+    ensures answer { λ r. ⌜ r .wrote ≡ propertyCall s column kind bits (now (text .entry)) (now (buffer .entry)) ⌝ }
+    ensures place { λ r. ⌜ r .place ≡ propertyPlace s column kind bits (now (text .entry)) (now (buffer .entry)) ⌝ }
     ensures bytes { λ _. ⌜ now (buffer .exit) ≡ bytesAfter (s .waiting) (s .properties) column kind bits (now (text .entry)) (now (buffer .entry)) ⌝ }
 {
     let put = property_writer::put_property(
@@ -21,8 +35,12 @@ pub fn property(s: State, column: u32, kind: u8, bits: u64, text: &[u8], buffer:
     );
     let mut state = s;
     state.properties = put.used;
-    Wrote {
+    let wrote = Wrote {
         number: put.number,
         state,
+    };
+    PropertyWrote {
+        wrote,
+        place: put.place,
     }
 }

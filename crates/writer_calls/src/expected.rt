@@ -31,7 +31,7 @@ const HEAD_BYTES: usize = 6;
 // Where the numbers of a case stand.
 const NUMBER: usize = 0;
 
-const TAKEN: usize = 1;
+const COUNT: usize = 1;
 
 const TIMES: usize = 2;
 
@@ -48,10 +48,10 @@ const NUMBERS: usize = 28;
 
 const RECORD_BYTES: usize = 64;
 
-// What a call answers: the number, and how many events it took where it was given many.
+// What a call answers: the number, and beside it how many events it took where it was given many, or a property's place.
 pub struct Answered {
     pub number: u8,
-    pub taken: usize,
+    pub count: usize,
 }
 
 fn wide(byte: u8) -> usize
@@ -167,7 +167,7 @@ pub fn unexpected(case: &[u8], answered: Answered) -> u8 {
         answered.number as usize == number(case, NUMBER),
         difference::NUMBER,
     )
-        | unless(answered.taken == number(case, TAKEN), difference::COUNT)
+        | unless(answered.count == number(case, COUNT), difference::COUNT)
 }
 
 // What differs in what the call left behind, the memory by its checksum.

@@ -24,7 +24,7 @@ fn hand_over(case: &[u8], state: &mut StateWords) -> Answered {
 }
 
 fn alone(number: u8) -> Answered {
-    Answered { number, taken: 0 }
+    Answered { number, count: 0 }
 }
 
 // The one place that makes calls with all seven slices.
@@ -66,7 +66,10 @@ pub fn make(
                 tm,
                 &mut taken,
             );
-            Answered { number, taken }
+            Answered {
+                number,
+                count: taken,
+            }
         }
         expected::FINISH => alone(bintolage::bintolage_finish(state, table, xy, ends, z, m, t, tm)),
         expected::NEXT => alone(bintolage::bintolage_next(state, table, xy, ends, z, m, t, tm)),

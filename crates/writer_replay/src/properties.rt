@@ -9,6 +9,8 @@ use writer_calls::expected::Answered;
 
 fn put(case: &[u8], state: &mut StateWords, buffer: &mut [u8]) -> Answered {
     let given = expected::given(case);
+    // A place that no text here has, so that one which is left standing differs.
+    let mut place = 0xc0de_c0de;
     let number = bintolage::bintolage_property(
         state,
         expected::number(case, expected::COLUMN) as u32,
@@ -16,8 +18,12 @@ fn put(case: &[u8], state: &mut StateWords, buffer: &mut [u8]) -> Answered {
         word(given, 0),
         past(given, 8),
         buffer,
+        &mut place,
     );
-    Answered { number, taken: 0 }
+    Answered {
+        number,
+        count: place,
+    }
 }
 
 fn clear(state: &StateWords, memory: &mut [u8]) {

@@ -1,4 +1,4 @@
-//! The proved library and the crate's own Rust, given the same: every number, count, state, record, word and byte is compared.
+//! The proved library and the crate's own Rust, given the same: every number, count, place, state, record, word and byte is compared.
 mod boxes;
 mod extents;
 mod input;
@@ -145,6 +145,8 @@ fn main() -> ExitCode {
     }
     make::exhaustive::each(&mut |input| run.compare(&input));
     println!("all short ones: {} compared after {:.0?}", run.tally.compared(), began.elapsed());
+    make::texts::each(&mut |input| run.compare(&input));
+    println!("texts: {} compared after {:.0?}", run.tally.compared(), began.elapsed());
     let mut pick = Pick(options.seed);
     let until = Duration::from_secs_f64(60.0 * options.minutes);
     let mut inputs = 0u64;

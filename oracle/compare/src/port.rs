@@ -107,8 +107,20 @@ pub fn events(state: &mut Words, events: &[u8], memory: &mut Memory, lent: Lengt
     (number, taken)
 }
 
-pub fn property(state: &mut Words, column: u32, column_type: u8, bits: u64, text: &[u8], memory: &mut Memory, lent: Lengths) -> u8 {
-    bare::property(state, column, column_type, bits, text, &mut memory.properties[..lent[PROPERTIES]])
+/// The number, and the place in the text.
+pub fn property(
+    state: &mut Words,
+    column: u32,
+    column_type: u8,
+    bits: u64,
+    text: &[u8],
+    memory: &mut Memory,
+    lent: Lengths,
+) -> (u8, usize) {
+    let mut place = 0xC0DE_C0DE;
+    let buffer = &mut memory.properties[..lent[PROPERTIES]];
+    let number = bare::property(state, column, column_type, bits, text, buffer, &mut place);
+    (number, place)
 }
 
 pub fn finish(state: &mut Words, memory: &mut Memory, lent: Lengths) -> u8 {
@@ -133,9 +145,17 @@ pub fn edges(memory: &Memory, n: u32) -> (u8, [u64; 4]) {
     (number, edges)
 }
 
-/// The number, how many records the log has then, and whether the reading stopped.
-pub fn read_properties(bytes: &[u8], columns: Option<&[u8]>, stop: u32, log: &mut [u8]) -> (u8, u32, u8) {
-    let (mut count, mut stopped) = (0xC0DE_C0DE, 0xC0);
-    let number = bare::read_properties(bytes, columns, stop, log, &mut count, &mut stopped);
-    (number, count, stopped)
+/// The number, how many records the log has then, whether the reading stopped, and the place in a text.
+#[derive(Debug, PartialEq, Eq)]
+pub struct PropertiesRead {
+    pub number: u8,
+    pub count: u32,
+    pub stopped: u8,
+    pub place: usize,
+}
+
+pub fn read_properties(bytes: &[u8], columns: Option<&[u8]>, stop: u32, log: &mut [u8]) -> PropertiesRead {
+    let (mut count, mut stopped, mut place) = (0xC0DE_C0DE, 0xC0, 0xC0DE_C0DE);
+    let number = bare::read_properties(bytes, columns, stop, log, &mut count, &mut stopped, &mut place);
+    PropertiesRead { number, count, stopped, place }
 }

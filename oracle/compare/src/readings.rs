@@ -3,11 +3,12 @@
 //! Rust's: of its records all other bytes are compared, and in their place stands the number that was asked for.
 use crate::boxes::Boxes;
 use crate::input::{Properties, Tree};
-use crate::port::{self, Memory};
+use crate::port::{self, Memory, PropertiesRead};
 use crate::rows::Finished;
 use crate::tally::{Asked, Tally};
-use original::answer::{DONE, LOG_FULL};
+use original::answer::{DONE, LOG_FULL, TEXT_NOT_UTF8};
 use original::events::put_feature;
+use original::properties::ValuesRead;
 use original::reading;
 
 const UNTOUCHED: u8 = 0xA5;
@@ -97,21 +98,27 @@ pub fn compare_properties(list: &Properties, tally: &mut Tally) -> Result<(), St
     let usable = &list.bytes[..list.bytes.len().min(MOST_PROPERTY_BYTES)];
     let rust = original::properties::read(usable, list.columns.as_deref(), list.stop);
     for length in log_lengths(rust.records.len(), 16, list.cut) {
-        let room = length / 16 * 16;
-        let full = rust.records.len() > room;
-        let records = if full { &rust.records[..room] } else { &rust.records };
-        let expected = if full { (LOG_FULL, false) } else { (rust.number, rust.stopped) };
+        let (expected, records) = values_in(length / 16, &rust);
         let mut log = vec![UNTOUCHED; length];
-        let (number, count, stopped) = port::read_properties(&list.bytes, list.columns.as_deref(), list.stop, &mut log);
-        if (number, count as usize, stopped) != (expected.0, records.len() / 16, expected.1 as u8) {
-            let (words, values) = (&rust.words, records.len() / 16);
-            return Err(format!(
-                "properties answered {number}, {stopped} after {count}, not {expected:?} after {values} ({words})"
-            ));
+        let answered = port::read_properties(&list.bytes, list.columns.as_deref(), list.stop, &mut log);
+        if answered != expected {
+            return Err(format!("properties gave {answered:?}, not {expected:?} ({})", rust.words));
         }
         check_log("properties", &log, records)?;
-        tally.answered(Asked::ReadProperties, number);
+        if expected.number == LOG_FULL && rust.number == TEXT_NOT_UTF8 {
+            tally.came_before(LOG_FULL, TEXT_NOT_UTF8);
+        }
+        tally.answered(Asked::ReadProperties, expected.number);
+        tally.placed(Asked::ReadProperties, expected.number, expected.place);
         tally.lists += 1;
     }
     Ok(())
+}
+
+/// The Rust's reading with room for so many records. A full log tells of nothing behind it, and has no place.
+fn values_in(room: usize, rust: &ValuesRead) -> (PropertiesRead, &[u8]) {
+    let full = 16 * room < rust.records.len();
+    let records = if full { &rust.records[..16 * room] } else { &rust.records };
+    let (number, stopped, place) = if full { (LOG_FULL, false, 0) } else { (rust.number, rust.stopped, rust.place) };
+    (PropertiesRead { number, count: records.len() as u32 / 16, stopped: stopped.into(), place }, records)
 }

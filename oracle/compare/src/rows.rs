@@ -1,7 +1,7 @@
 //! Rows of calls to the two writers.
 //!
-//! The Rust's: whether types mix (5), the state after a call, every word and property byte laid down, every finished tree, and the
-//! box that its writer keeps, where a finished tree's must be the same (`kept_box`).
+//! The Rust's: whether types mix (5), the place of a text that is not UTF-8, the state after a call, every word and property byte laid
+//! down, every finished tree, and the box that its writer keeps, where a finished tree's must be the same (`kept_box`).
 //! SPEC's, by the small model here: 11, 15, 17, 16, 6 and 12, the feature's number that is held, where a part's lists stand before the
 //! tree is finished (the finished tree is then compared with the Rust's), where the pending lists begin, and that all else stays as
 //! it was.
@@ -11,7 +11,7 @@ use crate::kept_box::KeptBox;
 use crate::port::{self, Lengths, Memory, Words, PROPERTIES, TABLE};
 use crate::tally::{Asked, Tally};
 use bintolage::usable::STATE_WORDS;
-use original::answer::{COLUMN_TOO_LARGE, DONE, MALFORMED, NOT_ITS_TURN, NO_ROOM, OTHER_FEATURE, TYPES_MIXED};
+use original::answer::{COLUMN_TOO_LARGE, DONE, MALFORMED, NOT_ITS_TURN, NO_ROOM, OTHER_FEATURE, TEXT_NOT_UTF8, TYPES_MIXED};
 use original::events::{feature_of, is_malformed};
 use original::feature_writer::peek::State;
 use original::properties::value;
@@ -82,6 +82,26 @@ fn additions(event: &[u8], mode: u8) -> Additions {
     Additions { words, part }
 }
 
+/// The bytes that a property takes, its column's two among them.
+fn property_size(kind: u8, text: &[u8]) -> usize {
+    2 + match kind {
+        0..=2 => 1,
+        3 | 4 => 2,
+        5 | 6 | 9 => 4,
+        7 | 8 | 10 => 8,
+        _ => 4 + text.len(),
+    }
+}
+
+/// What a text that is not UTF-8 covers: the number that came before, or that there was no room for it either.
+fn tally_bad_text(first: Option<u8>, has_room: bool, tally: &mut Tally) {
+    match first {
+        Some(number) => tally.came_before(number, TEXT_NOT_UTF8),
+        None if !has_room => tally.came_before(TEXT_NOT_UTF8, NO_ROOM),
+        None => {}
+    }
+}
+
 impl<'r> Session<'r> {
     fn new(row: &'r Row) -> Session<'r> {
         let memory = Memory::new(row.held);
@@ -125,9 +145,13 @@ impl<'r> Session<'r> {
                 (Asked::Event, numbers.0, numbers.1)
             }
             What::Property { column, kind, bits, text } => {
-                let expected = self.expect_property(&call.what, lent);
+                let expected = self.expect_property(&call.what, lent, tally);
                 let answered = port::property(&mut self.words, *column, *kind, *bits, text, &mut self.memory, lent);
-                (Asked::Property, expected, answered)
+                if answered != expected {
+                    return Err(format!("Property answered {answered:?}, not {expected:?}"));
+                }
+                tally.placed(Asked::Property, expected.0, expected.1);
+                (Asked::Property, expected.0, answered.0)
             }
             What::Finish => {
                 let expected = self.expect_finish(&call.what, lent)?;
@@ -303,34 +327,31 @@ impl<'r> Session<'r> {
         }
     }
 
-    fn expect_property(&mut self, call: &'r What, lent: Lengths) -> u8 {
+    /// The number, and the place in the text, which is 0 with every number but 6.
+    fn expect_property(&mut self, call: &'r What, lent: Lengths, tally: &mut Tally) -> (u8, usize) {
         let What::Property { column, kind, bits, text } = call else { unreachable!("asked of a property") };
-        if self.waiting.is_some() {
-            return NOT_ITS_TURN;
-        }
-        if *column > 65535 {
-            return COLUMN_TOO_LARGE;
-        }
-        let value = match value(*kind, *bits, text) {
-            Ok(value) => value,
-            Err(number) => return number,
-        };
+        let first = if self.waiting.is_some() { Some(NOT_ITS_TURN) } else { (*column > 65535).then_some(COLUMN_TOO_LARGE) };
         let used = self.rust.properties().len();
-        let size = match *kind {
-            0..=2 => 1,
-            3 | 4 => 2,
-            5 | 6 | 9 => 4,
-            7 | 8 | 10 => 8,
-            _ => 4 + text.len(),
+        let has_room = used + property_size(*kind, text) <= lent[PROPERTIES].min(MOST_PROPERTY_BYTES);
+        let value = value(*kind, *bits, text);
+        if value.as_ref().is_err_and(|refused| refused.number == TEXT_NOT_UTF8) {
+            tally_bad_text(first, has_room, tally);
+        }
+        if let Some(number) = first {
+            return (number, 0);
+        }
+        let value = match value {
+            Ok(value) => value,
+            Err(refused) => return (refused.number, refused.place),
         };
-        if used + 2 + size > lent[PROPERTIES].min(MOST_PROPERTY_BYTES) {
-            return NO_ROOM;
+        if !has_room {
+            return (NO_ROOM, 0);
         }
         let number = self.rust.property(*column, &value);
         self.given.push(call);
         let laid = &self.rust.properties()[used..];
         self.expected.properties[used..used + laid.len()].copy_from_slice(laid);
-        number
+        (number, 0)
     }
 
     fn expect_finish(&mut self, call: &'r What, lent: Lengths) -> Result<u8, String> {

@@ -1,5 +1,8 @@
 //! What a run has compared: how many of each sort, and what they covered.
-use original::answer::{BAD_RECORD, DONE, MALFORMED, NOT_ITS_TURN, NO_ROOM, OTHER_FEATURE, TOO_DEEP, TYPES_MIXED};
+use original::answer::{
+    BAD_RECORD, COLUMN_TOO_LARGE, DONE, LOG_FULL, MALFORMED, NOT_ITS_TURN, NO_ROOM, OTHER_FEATURE, TEXT_NOT_UTF8, TOO_DEEP,
+    TYPES_MIXED,
+};
 use std::collections::{BTreeMap, BTreeSet};
 use std::fmt;
 
@@ -35,6 +38,18 @@ pub struct Tally {
     orders: BTreeSet<(u8, u8)>,
     written_under: Features,
     read_under: Features,
+    /// Of every property that was written, and of every list that was read.
+    places: u64,
+    /// Of the texts that were refused with 6.
+    bad_texts: BTreeMap<(Asked, Whereabouts), u64>,
+}
+
+/// Where a text went bad: at its first byte, behind it, or past what 16 bits count.
+#[derive(Clone, Copy, Debug, PartialEq, Eq, PartialOrd, Ord)]
+enum Whereabouts {
+    First,
+    Behind,
+    Far,
 }
 
 /// How often a feature's number was each of `FEATURES`, and how often any other.
@@ -43,9 +58,26 @@ struct Features([u64; 4]);
 
 const FEATURES: [u32; 3] = [0, 1, u32::MAX];
 const BOX_NUMBERS: [u8; 3] = [DONE, BAD_RECORD, TOO_DEEP];
-/// Where 17 stands in the order 11, 15, 17, 5, 12.
-const ORDERS: [(u8, u8); 4] =
-    [(MALFORMED, OTHER_FEATURE), (NOT_ITS_TURN, OTHER_FEATURE), (OTHER_FEATURE, TYPES_MIXED), (OTHER_FEATURE, NO_ROOM)];
+/// Where 17 stands in the order 11, 15, 17, 5, 12; and 6, without which there is no place, in the order 15, 16, 6, 12 of writing, and
+/// behind a full log.
+const ORDERS: [(u8, u8); 8] = [
+    (MALFORMED, OTHER_FEATURE),
+    (NOT_ITS_TURN, OTHER_FEATURE),
+    (OTHER_FEATURE, TYPES_MIXED),
+    (OTHER_FEATURE, NO_ROOM),
+    (NOT_ITS_TURN, TEXT_NOT_UTF8),
+    (COLUMN_TOO_LARGE, TEXT_NOT_UTF8),
+    (TEXT_NOT_UTF8, NO_ROOM),
+    (LOG_FULL, TEXT_NOT_UTF8),
+];
+/// Property bytes that are read end before a text can go bad so far.
+const BAD_TEXTS: [(Asked, Whereabouts); 5] = [
+    (Asked::Property, Whereabouts::First),
+    (Asked::Property, Whereabouts::Behind),
+    (Asked::Property, Whereabouts::Far),
+    (Asked::ReadProperties, Whereabouts::First),
+    (Asked::ReadProperties, Whereabouts::Behind),
+];
 const MODES: [&str; 3] = ["Normal", "GeometryCollection", "ForceMulti"];
 
 impl Tally {
@@ -90,6 +122,14 @@ impl Tally {
         self.read_under.count(feature);
     }
 
+    /// A place that was compared, and the number that it came with.
+    pub fn placed(&mut self, asked: Asked, number: u8, place: usize) {
+        self.places += 1;
+        if number == TEXT_NOT_UTF8 {
+            *self.bad_texts.entry((asked, Whereabouts::of(place))).or_default() += 1;
+        }
+    }
+
     /// A finished feature's box beside the one that the Rust's writer kept.
     pub fn kept_box(&mut self, has_parts: bool) {
         self.kept_boxes += 1;
@@ -97,7 +137,7 @@ impl Tally {
     }
 
     /// SPEC's refusals, types and changes of mode that no input came to, the answers that a box must have had, boxes that were to be
-    /// held to another's, and what there is to see of features' numbers.
+    /// held to another's, and what there is to see of features' numbers and of texts that are not UTF-8.
     pub fn missing(&self) -> Vec<String> {
         let mut missing = vec![];
         let answered = |number| self.numbers.keys().any(|(_, given)| *given == number);
@@ -120,7 +160,29 @@ impl Tally {
         missing.extend(orders.map(|(number, due_too)| format!("{number} where {due_too} is due too")));
         missing.extend(self.written_under.missing().map(|feature| format!("a feature {feature} written")));
         missing.extend(self.read_under.missing().map(|feature| format!("a reading under {feature}")));
+        let bad_texts = BAD_TEXTS.iter().filter(|bad| !self.bad_texts.contains_key(bad));
+        missing.extend(bad_texts.map(|(asked, at)| format!("{asked:?} of a text that is not UTF-8 {at}")));
         missing
+    }
+}
+
+impl Whereabouts {
+    fn of(place: usize) -> Whereabouts {
+        match place {
+            0 => Whereabouts::First,
+            1..=65_535 => Whereabouts::Behind,
+            _ => Whereabouts::Far,
+        }
+    }
+}
+
+impl fmt::Display for Whereabouts {
+    fn fmt(&self, to: &mut fmt::Formatter) -> fmt::Result {
+        to.write_str(match self {
+            Whereabouts::First => "at 0",
+            Whereabouts::Behind => "from 1 on",
+            Whereabouts::Far => "from 65536 on",
+        })
     }
 }
 
@@ -164,6 +226,11 @@ impl fmt::Display for Tally {
             write!(to, "  {} to {}: {count}", MODES[usize::from(*from)], MODES[usize::from(*mode)])?;
         }
         writeln!(to, "\nfeatures written under{}", self.written_under)?;
-        writeln!(to, "readings under{}", self.read_under)
+        writeln!(to, "readings under{}", self.read_under)?;
+        write!(to, "places in texts {}; not UTF-8", self.places)?;
+        for ((asked, at), count) in &self.bad_texts {
+            write!(to, "  {asked:?} {at}: {count}")?;
+        }
+        writeln!(to)
     }
 }

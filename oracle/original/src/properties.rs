@@ -6,17 +6,26 @@ use crate::properties_reader::FgbFeature;
 use flatbuffers::{FlatBufferBuilder, WIPOffset};
 use geozero::error::Result;
 use geozero::{ColumnValue, FeatureProperties, PropertyProcessor};
+use std::str::from_utf8;
 
 /// Bytes of a value, by its column type; types 11 to 14 have a length of their own.
 pub const WIDTHS: [u32; 11] = [1, 1, 1, 2, 2, 4, 4, 8, 8, 4, 8];
 
-/// A value as the crate takes it. 11 and 6 are SPEC 9.4's: the crate's types hold no such value.
-pub fn value(kind: u8, bits: u64, text: &[u8]) -> std::result::Result<ColumnValue<'_>, u8> {
+/// Why the crate cannot be given a value: a number of SPEC 9.4, and with 6 the place of the text's first bad byte (9.13), which is else 0.
+#[derive(Debug)]
+pub struct Refused {
+    pub number: u8,
+    pub place: usize,
+}
+
+/// A value as the crate takes it. 11 and 6 are SPEC 9.4's: the crate's types hold no such value. The place is Rust's own, of the error
+/// where the text is to become a `&str`.
+pub fn value(kind: u8, bits: u64, text: &[u8]) -> std::result::Result<ColumnValue<'_>, Refused> {
     let too_wide = WIDTHS.get(usize::from(kind)).is_some_and(|width| *width < 8 && bits >> (8 * width) != 0);
     if kind > 14 || too_wide || (kind == 2 && bits > 1) {
-        return Err(MALFORMED);
+        return Err(Refused { number: MALFORMED, place: 0 });
     }
-    let utf8 = || std::str::from_utf8(text).map_err(|_| TEXT_NOT_UTF8);
+    let utf8 = || from_utf8(text).map_err(|error| Refused { number: TEXT_NOT_UTF8, place: error.valid_up_to() });
     Ok(match kind {
         0 => ColumnValue::Byte(bits as i8),
         1 => ColumnValue::UByte(bits as u8),
@@ -81,11 +90,13 @@ impl PropertyProcessor for Values {
 pub struct ValuesRead {
     pub number: u8,
     pub stopped: bool,
+    /// With 6 the place of the text's first bad byte, else 0.
+    pub place: usize,
     pub records: Vec<u8>,
     pub words: String,
 }
 
-/// Reads property bytes. All is the crate's, but for the number 14 of its panics.
+/// Reads property bytes. All is the crate's, but for the number 14 of its panics and the way to the text that it refused.
 pub fn read(bytes: &[u8], columns: Option<&[u8]>, stop: u32) -> ValuesRead {
     let feature = feature(bytes, columns);
     let mut values = Values::of(&feature, stop);
@@ -94,7 +105,51 @@ pub fn read(bytes: &[u8], columns: Option<&[u8]>, stop: u32) -> ValuesRead {
         Ok(Err(error)) => (number(&error), false, format!("{error:?}")),
         Err(words) => (if words.contains("properties_reader.rs") { VALUE_CUT } else { UNKNOWN }, false, words),
     };
-    ValuesRead { number, stopped, records: values.records, words }
+    let records = values.records;
+    if number != TEXT_NOT_UTF8 {
+        return ValuesRead { number, stopped, place: 0, records, words };
+    }
+    match caught(|| bad_place(bytes, columns.unwrap_or_default(), records.len() / 16)) {
+        Ok(place) => ValuesRead { number, stopped, place, records, words },
+        Err(words) => ValuesRead { number: UNKNOWN, stopped, place: 0, records, words },
+    }
+}
+
+/// Where the text went bad that the crate refused behind so many values. Its error has no place, so the text is looked for by SPEC 9.1
+/// and 9.6 to 9.9, and Rust is asked about it once more. It panics if there is no such text: the way to it is wrong then.
+fn bad_place(bytes: &[u8], columns: &[u8], values: usize) -> usize {
+    let mut rest = bytes;
+    for _ in 0..values {
+        let (kind, value) = first_value(rest, columns);
+        rest = split_value(kind, value).1;
+    }
+    let (kind, value) = first_value(rest, columns);
+    assert!(matches!(kind, 11..=13), "the crate refused the text of a value of type {kind}");
+    from_utf8(split_value(kind, value).0).expect_err("the crate refused a text that is UTF-8").valid_up_to()
+}
+
+/// The first property that has a value: its type, and the bytes from its value on.
+fn first_value<'b>(bytes: &'b [u8], columns: &[u8]) -> (u8, &'b [u8]) {
+    let mut rest = bytes;
+    loop {
+        let (column, behind) = rest.split_first_chunk().expect("the crate refused a text behind the last property");
+        let kind = columns[usize::from(u16::from_le_bytes(*column))];
+        if kind <= 14 {
+            return (kind, behind);
+        }
+        rest = behind;
+    }
+}
+
+/// A value's bytes, without the length that types 11 to 14 have before them, and what stands behind it.
+fn split_value(kind: u8, bytes: &[u8]) -> (&[u8], &[u8]) {
+    match WIDTHS.get(usize::from(kind)) {
+        Some(width) => bytes.split_at(*width as usize),
+        None => {
+            let (length, behind) = bytes.split_first_chunk().expect("the crate refused a text without a length");
+            behind.split_at(u32::from_le_bytes(*length) as usize)
+        }
+    }
 }
 
 /// A feature of these property bytes and columns, as the crate reads it.

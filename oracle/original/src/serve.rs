@@ -103,10 +103,12 @@ fn write(request: &mut Request) -> Answer {
             }
             PROPERTY => {
                 let (column, kind, bits, text) = (request.number()?, request.byte()?, request.word()?, request.bytes()?);
-                answer.push(match properties::value(kind, bits, text) {
-                    Ok(value) => writer.property(column, &value),
-                    Err(number) => number,
-                });
+                let (number, place) = match properties::value(kind, bits, text) {
+                    Ok(value) => (writer.property(column, &value), 0),
+                    Err(refused) => (refused.number, refused.place),
+                };
+                answer.push(number);
+                put_number(&mut answer, place);
             }
             _ => return Err("no such item".into()),
         }
@@ -147,6 +149,7 @@ fn read_properties(request: &mut Request) -> Answer {
     let (columns, bytes) = (request.bytes()?, request.bytes()?);
     let values = properties::read(bytes, has_columns.then_some(columns), stop);
     let mut answer = vec![DONE, values.number, values.stopped as u8];
+    put_number(&mut answer, values.place);
     put_bytes(&mut answer, &values.records);
     put_bytes(&mut answer, values.words.as_bytes());
     Ok(answer)

@@ -10,4 +10,12 @@ use Rattle.bintolage.proofs.bintolage_read_properties.Tie as tie
 
 pub bintolage-read-properties-spec : {M : Type 1} → statement M
 bintolage-read-properties-spec =
-    tie.close (tie.spec (λ c κs. search needs) (λ c. omega (arith, count-most values _ _ (said values (c .before .before .before .read-properties .ensures .0)))) (λ c. search needs) (λ c. search needs) (λ c. let read = c .before .before .before .before .read-properties .ensures in (said values (read .0), stop-byte (c .before .before .before .before .read-properties .result .stopped) ∙ ap one (read .1))))
+    tie.close
+    (tie.spec
+    (λ c κs. search needs)
+    (λ c. omega (arith, count-most values _ _ (said values (c .before .before .before .read-properties .ensures .0))))
+    (λ c. search needs)
+    (λ c. search needs)
+    (λ c.
+    let read = c .before .before .before .before .read-properties in
+    (said values (read .ensures .0), (stop-byte (read .result .stopped) ∙ ap one (read .ensures .1 .0), read .ensures .1 .1))))

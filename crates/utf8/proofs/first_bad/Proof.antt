@@ -5,6 +5,7 @@ use lib.ListN.{length, drop}
 use borrow.Author.Needs.{needs}
 use Rattle.utf8.specs.Utf8.{firstBad}
 use Rattle.utf8.specs.Laws.{char-at-within, bad-here, bad-at-end, bad-at-next, ascii-at}
+use Rattle.utf8.specs.Meaning.{bad-nowhere, bad-at}
 use Rattle.utf8.proofs.first_bad.Statement.{statement}
 use Rattle.utf8.proofs.first_bad.Tie as tie
 
@@ -34,7 +35,8 @@ first-bad-spec =
     let here = c .before .before .before .before .before in
     let s = here .before .before .args .bytes .now in
     let at = here .loop .at in
-    omega (arith, here .loop .inv .1, bad-here (drop at s) (sym (c .before .char-length .ensures) ∙ c .if2 .taken)))
+    let stops = bad-here (drop at s) (sym (c .before .char-length .ensures) ∙ c .if2 .taken) in
+    bad-at s at (omega (arith, here .loop .inv .1)) (omega arith))
     (λ c.
     let here = c .before .before .before .before .before in
     omega (arith, c .before .char-length .ensures, char-at-within (here .before .before .args .bytes .now) (here .loop .at)))
@@ -49,4 +51,6 @@ first-bad-spec =
     (omega (arith, char .ensures, char-at-within s at), sym (bad-at-next s at (char .result) (char .ensures) (c .if2 .left)) ∙ here .loop .inv .1))
     (λ c.
     let here = c .before in
-    omega (arith, here .loop .inv .1, bad-at-end (here .before .before .args .bytes .now) (here .loop .at) (c .loop-test .left))))
+    let s = here .before .before .args .bytes .now in
+    let ends = bad-at-end s (here .loop .at) (c .loop-test .left) in
+    bad-nowhere s (omega (arith, here .loop .inv .1))))

@@ -11,7 +11,6 @@ pub fn each(give: &mut dyn FnMut(Input)) {
     boxes(give);
     box_lists(give);
     property_bytes(give);
-    texts(give);
 }
 
 const ONE: u64 = 0x3FF << 52;
@@ -182,25 +181,6 @@ fn property_bytes(give: &mut dyn FnMut(Input)) {
                     }));
                 }
             }
-        }
-    }
-}
-
-/// Every text of one and two bytes, and of three and four over the bytes at which the rules of UTF-8 turn.
-fn texts(give: &mut dyn FnMut(Input)) {
-    let mut text = |text: &[u8]| {
-        let bytes = [&[0, 0, text.len() as u8, 0, 0, 0], text].concat();
-        give(Input::Properties(Properties { bytes, columns: Some(vec![11]), stop: 0, cut: 3 }));
-    };
-    (0..=255).for_each(|byte| text(&[byte]));
-    (0..=u16::MAX).for_each(|pair| text(&pair.to_be_bytes()));
-    let turns =
-        [0x00, 0x41, 0x7F, 0x80, 0x8F, 0x90, 0x9F, 0xA0, 0xBF, 0xC0, 0xC1, 0xC2, 0xDF, 0xE0, 0xE1, 0xEC, 0xED, 0xEE, 0xEF, 0xF0];
-    let turns: Vec<u8> = turns.into_iter().chain([0xF1, 0xF3, 0xF4, 0xF5, 0xFF]).collect();
-    for length in [3, 4] {
-        for code in 0..turns.len().pow(length) {
-            let bytes: Vec<u8> = (0..length).map(|place| turns[code / turns.len().pow(place) % turns.len()]).collect();
-            text(&bytes);
         }
     }
 }

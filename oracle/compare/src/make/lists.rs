@@ -8,13 +8,11 @@ const TEXTS: [&str; 10] =
 
 /// Mostly UTF-8.
 pub fn text(pick: &mut Pick) -> Vec<u8> {
-    let mut bytes = pick.of(&TEXTS).as_bytes().to_vec();
+    let mut bytes: Vec<u8> = (0..1 + pick.below(3)).flat_map(|_| pick.of(&TEXTS).bytes()).collect();
     if pick.one_in(12) {
-        match pick.below(3) {
-            0 => bytes.truncate(pick.below(bytes.len() + 1)),
-            1 => bytes.push(pick.byte()),
-            _ => bytes = pick.bytes(4),
-        }
+        damage(pick, &mut bytes);
+    } else if pick.one_in(40) {
+        bytes = pick.bytes(4);
     }
     bytes
 }

@@ -1,4 +1,4 @@
-//! The inputs: all short ones of a kind, random ones with damage, those at the limits, and real files.
+//! The inputs: all short ones of a kind, texts, random ones with damage, those at the limits, and real files.
 pub mod exhaustive;
 pub mod files;
 pub mod limits;
@@ -9,4 +9,5 @@ pub mod pick;
 pub mod records;
 pub mod rows;
 pub mod shared;
+pub mod texts;
 pub mod trees;
