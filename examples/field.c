@@ -1,5 +1,6 @@
 /* A field edge with two keep-out rings, and what the crew has to know; then a field in two blocks. Each is written, read back
- * and printed, with the box around it. A name that is not UTF-8 is refused, and the dealer is told where it went bad. */
+ * and printed, with the box around it. A name that is not UTF-8 is refused, whether it was sent or typed, and the dealer is
+ * told where it went bad. */
 #include "bintolage.h"
 
 #include <stdio.h>
@@ -26,12 +27,21 @@ static const bintolage_memory memory = {
 #define FIELD 1
 #define BLOCKS 2
 
+/* The columns, by their numbers. */
+enum { DEPTH, SLOPE, CREW };
+
 static const uint8_t columns[] = {BINTOLAGE_COLUMN_DOUBLE, BINTOLAGE_COLUMN_USHORT, BINTOLAGE_COLUMN_STRING};
 static const char *const names[] = {"depth", "slope", "crew"};
 static const char crew[] = "Jensen, Søren";
 
 /* Another of the crew, typed on an old keypad, which writes Latin-1. */
 static const char typed[] = "H. Schr\xe4" "der";
+
+/* Properties as an office sends them that has the name from such a keypad. */
+static const uint8_t sent[] = {
+    SLOPE, 0, 3, 0,
+    CREW, 0, 11, 0, 0, 0, 'H', '.', ' ', 'S', 'c', 'h', 'r', 0xe4, 'd', 'e', 'r',
+};
 
 static const double edge[][2] = {{0, 0}, {400, 0}, {400, 250}, {0, 250}, {0, 0}};
 static const double main_pipe[][2] = {{50, 40}, {50, 60}, {350, 60}, {350, 40}, {50, 40}};
@@ -85,22 +95,44 @@ static void give_blocks(void)
     give(bintolage_end(BLOCKS, BINTOLAGE_MULTI_POLYGON, 0, 0));
 }
 
+static void print_bad_text(const char *origin, uint16_t column, const uint8_t *text, size_t place)
+{
+    printf("%s, %s: not UTF-8 at byte %zu (0x%02x)\n", origin, names[column], place, text[place]);
+}
+
+/* A reading says the place alone; the text is found behind the values that came before it. */
+static void read_sent(void)
+{
+    uint32_t count;
+    uint8_t stopped;
+    size_t place;
+    const uint8_t answer = bintolage_read_properties(
+        sent, sizeof sent, 1, columns, sizeof columns, BINTOLAGE_NO_STOP, (uint8_t *)values, sizeof values,
+        &count, &stopped, &place);
+    if (answer == BINTOLAGE_NOT_UTF8) {
+        const bintolage_text text = bintolage_refused_text(sent, sizeof sent, columns, sizeof columns, values, count);
+        print_bad_text("sent", text.column, text.bytes, place);
+    } else {
+        must("sent", answer);
+    }
+}
+
 /* A name that is not UTF-8 is refused, and the feature goes on as though it had not come. */
 static void give_crew(const char *name)
 {
     size_t place;
-    const uint8_t answer = bintolage_give_text(&state, &memory, 2, columns[2], name, strlen(name), &place);
+    const uint8_t answer = bintolage_give_text(&state, &memory, CREW, columns[CREW], name, strlen(name), &place);
     if (answer == BINTOLAGE_NOT_UTF8) {
-        printf("%s: not UTF-8 at byte %zu (0x%02x)\n", names[2], place, (uint8_t)name[place]);
+        print_bad_text("typed", CREW, (const uint8_t *)name, place);
     } else {
-        must(names[2], answer);
+        must(names[CREW], answer);
     }
 }
 
 static void give_properties(void)
 {
-    must("depth", bintolage_give_number(&state, &memory, 0, columns[0], bintolage_bits_of(1.15)));
-    must("slope", bintolage_give_number(&state, &memory, 1, columns[1], 3));
+    must(names[DEPTH], bintolage_give_number(&state, &memory, DEPTH, columns[DEPTH], bintolage_bits_of(1.15)));
+    must(names[SLOPE], bintolage_give_number(&state, &memory, SLOPE, columns[SLOPE], 3));
     give_crew(typed);
     give_crew(crew);
 }
@@ -152,6 +184,7 @@ static void print_properties(void)
 
 int main(void)
 {
+    read_sent();
     bintolage_start(&state, BINTOLAGE_UNKNOWN, 0, 0);
     give_field();
     give_properties();

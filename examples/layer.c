@@ -1,9 +1,10 @@
 /* The inline layer of bintolage.h, checked: records that are built are read back, null lists are lent as none, features are
- * told apart by their numbers, a text that went bad has its place, and every answer has its words. Prints how many checks
- * were made and how many failed. */
+ * told apart by their numbers, a text that went bad has its place and is found, and every answer has its words. Prints how many
+ * checks were made and how many failed. */
 #include "bintolage.h"
 
 #include <stdio.h>
+#include <stdlib.h>
 #include <string.h>
 
 static unsigned checks, failures;
@@ -18,6 +19,8 @@ static void check(const char *what, int holds)
 }
 
 #define MOST 0xffffffffu
+
+#define COUNT_OF(list) (sizeof(list) / sizeof *(list))
 
 /* A feature's number of which every byte is another. */
 #define FEATURE 0x0c0b0a09u
@@ -477,7 +480,7 @@ static void check_given_far(void)
     bintolage_start(&state, 0, 0, 0);
     memset(bytes, 'a', sizeof bytes);
     check("a text too long", is_given(state, &all, 0, BINTOLAGE_COLUMN_STRING, but(text, BINTOLAGE_NO_ROOM)));
-    for (int i = 0; i < 5; i++) {
+    for (size_t i = 0; i < COUNT_OF(places); i++) {
         text.place = places[i];
         bytes[text.place] = '\xe4';
         check("where it went bad", is_given(state, &all, 0, BINTOLAGE_COLUMN_STRING, text));
@@ -527,12 +530,217 @@ static void check_places(void)
 {
     check_place(good);
     check_place(typed);
-    for (int i = 0; i < 5; i++) {
+    for (size_t i = 0; i < COUNT_OF(others); i++) {
         check_place(others[i]);
     }
     check_given_otherwise();
     check_given_far();
     check_read_otherwise();
+}
+
+/* The columns of a row of properties, by their numbers: those of the texts come last. */
+enum { NUMBER, BINARY, NO_VALUE, NO_VALUE_EITHER, STRING, JSON, DATE_TIME, KINDS };
+
+static const uint8_t row_types[KINDS] = {
+    BINTOLAGE_COLUMN_USHORT, BINTOLAGE_COLUMN_BINARY, BINTOLAGE_COLUMN_BINARY + 1, 255,
+    BINTOLAGE_COLUMN_STRING, BINTOLAGE_COLUMN_JSON, BINTOLAGE_COLUMN_DATE_TIME};
+
+/* A value of two bytes in each column that has one: a Binary is no UTF-8, and is good. */
+static const char *const row_values[KINDS] = {"\xff\xff", "\xff\xe4", "", "", "å", "{}", "\xc2\xb5"};
+
+/* Property bytes, and how many values they have. There is room for a few properties. */
+typedef struct property_row {
+    uint8_t bytes[64];
+    size_t length;
+    uint32_t values;
+} property_row;
+
+static void put_bytes(property_row *row, const void *bytes, size_t count)
+{
+    memcpy(row->bytes + row->length, bytes, count);
+    row->length += count;
+}
+
+static void put_property(property_row *row, uint8_t column, const char *value, size_t length)
+{
+    const uint8_t type = row_types[column], number[] = {column, 0};
+    uint8_t said[4];
+    put_bytes(row, number, sizeof number);
+    if (type >= BINTOLAGE_COLUMN_STRING && type <= BINTOLAGE_COLUMN_BINARY) {
+        bintolage_put32(said, (uint32_t)length);
+        put_bytes(row, said, sizeof said);
+    }
+    put_bytes(row, value, length);
+    row->values += type <= BINTOLAGE_COLUMN_BINARY;
+}
+
+static void put_good(property_row *row, uint8_t column)
+{
+    put_property(row, column, row_values[column], strlen(row_values[column]));
+}
+
+/* More than a row has values: zeros stand behind them. */
+#define ROW_RECORDS 8
+
+/* A row of properties with a text that is refused, and what its reading wrote. */
+typedef struct refused_row {
+    property_row row;
+    size_t start, end; /* of the text's own bytes */
+    uint8_t column;
+    bintolage_value_record log[ROW_RECORDS];
+    uint32_t count;
+} refused_row;
+
+/* The text that went bad behind the row, with a number behind it, is read. */
+static refused_row read_behind(property_row row, uint8_t column)
+{
+    refused_row refused;
+    uint8_t stopped;
+    size_t place;
+    const uint32_t values = row.values;
+    memset(&refused, 0, sizeof refused);
+    put_property(&row, column, typed.bytes, typed.length);
+    refused.end = row.length;
+    refused.start = row.length - typed.length;
+    put_good(&row, NUMBER);
+    refused.row = row;
+    refused.column = column;
+    check("a text refused behind others", bintolage_read_properties(
+        row.bytes, row.length, 1, row_types, KINDS, BINTOLAGE_NO_STOP, (uint8_t *)refused.log, sizeof refused.log,
+        &refused.count, &stopped, &place) == BINTOLAGE_NOT_UTF8);
+    check("its place, and the values before it", place == typed.place && refused.count == values);
+    return refused;
+}
+
+static int is_no_text(bintolage_text text, const uint8_t *bytes)
+{
+    return text.column == 0 && text.column_type == 0 && text.bytes == bytes && text.length == 0;
+}
+
+static int is_refused(bintolage_text text, const uint8_t *bytes, const refused_row *refused)
+{
+    return text.column == refused->column && text.column_type == row_types[refused->column] &&
+           text.bytes == bytes + refused->start && text.length == typed.length &&
+           memcmp(text.bytes, typed.bytes, typed.length) == 0;
+}
+
+static int is_within(bintolage_text text, const uint8_t *bytes, size_t count)
+{
+    return text.bytes >= bytes && text.length <= count && (size_t)(text.bytes - bytes) <= count - text.length;
+}
+
+/* The bytes at the end of memory of their own, behind which valgrind and the sanitizers see a reading. A byte stands before
+ * them, since there may be none. */
+static uint8_t *copy_of(const uint8_t *bytes, size_t count)
+{
+    uint8_t *memory = (uint8_t *)malloc(1 + count);
+    if (!memory) {
+        exit(1);
+    }
+    memcpy(memory + 1, bytes, count);
+    return memory + 1;
+}
+
+static void drop_copy(uint8_t *copy)
+{
+    free(copy - 1);
+}
+
+/* The bytes end early: the text is found where it is whole. With any count it lies within the bytes. */
+static void check_cut(const refused_row *refused, size_t length)
+{
+    uint8_t *bytes = copy_of(refused->row.bytes, length);
+    bintolage_text text = bintolage_refused_text(bytes, length, row_types, KINDS, refused->log, refused->count);
+    check("a text in bytes that are cut",
+          length < refused->end ? is_no_text(text, bytes) : is_refused(text, bytes, refused));
+    for (uint32_t count = 0; count <= ROW_RECORDS; count++) {
+        text = bintolage_refused_text(bytes, length, row_types, KINDS, refused->log, count);
+        check("a text with a senseless count", is_within(text, bytes, length));
+    }
+    drop_copy(bytes);
+}
+
+/* The columns end early: the text is found where its own is there, which is a later one than those that have no value. */
+static void check_few_columns(const refused_row *refused, size_t count)
+{
+    const uint8_t *bytes = refused->row.bytes;
+    uint8_t *types = copy_of(row_types, count);
+    const bintolage_text text = bintolage_refused_text(
+        bytes, refused->row.length, types, count, refused->log, refused->count);
+    check("a text with few columns", count > refused->column ? is_refused(text, bytes, refused) : is_no_text(text, bytes));
+    drop_copy(types);
+}
+
+/* Records that say values longer than the bytes lead to no text. */
+static void check_senseless_log(const refused_row *refused)
+{
+    const property_row *row = &refused->row;
+    bintolage_value_record log[ROW_RECORDS];
+    for (int byte = 1; byte < 256; byte++) {
+        memset(log, byte, sizeof log);
+        check("a text with a senseless log", is_no_text(
+            bintolage_refused_text(row->bytes, row->length, row_types, KINDS, log, ROW_RECORDS), row->bytes));
+    }
+}
+
+static void check_refused(const refused_row *refused)
+{
+    const property_row *row = &refused->row;
+    check("the text that was refused", is_refused(
+        bintolage_refused_text(row->bytes, row->length, row_types, KINDS, refused->log, refused->count),
+        row->bytes, refused));
+    for (size_t length = 0; length <= row->length; length++) {
+        check_cut(refused, length);
+    }
+    for (size_t count = 0; count <= KINDS; count++) {
+        check_few_columns(refused, count);
+    }
+    check_senseless_log(refused);
+}
+
+/* What is null lends nothing, whatever its count says. */
+static void check_refused_nulls(void)
+{
+    const property_row empty = {{0}, 0, 0};
+    const refused_row refused = read_behind(empty, STRING);
+    const uint8_t *bytes = refused.row.bytes;
+    const size_t length = refused.row.length;
+    check("a text in no bytes", is_no_text(bintolage_refused_text(NULL, 99, row_types, KINDS, refused.log, 1), NULL));
+    check("a text without columns", is_no_text(bintolage_refused_text(bytes, length, NULL, 99, refused.log, 0), bytes));
+    check("a text behind no log", is_refused(
+        bintolage_refused_text(bytes, length, row_types, KINDS, NULL, 99), bytes, &refused));
+}
+
+/* A text of one letter, in a column of every type: a String, a Json or a DateTime is found, and no other. */
+static void check_refused_types(void)
+{
+    static const uint8_t bytes[] = {0, 0, 1, 0, 0, 0, 'a'};
+    for (int type = 0; type < 256; type++) {
+        const uint8_t types[] = {(uint8_t)type};
+        const bintolage_text text = bintolage_refused_text(bytes, sizeof bytes, types, COUNT_OF(types), NULL, 0);
+        const int is_letter = text.length == 1 && text.bytes == &bytes[sizeof bytes - 1] && text.column_type == type;
+        check("a refused text's type", type > 10 && type < 14 ? is_letter : is_no_text(text, bytes));
+    }
+}
+
+/* A text of each type, first and behind every two properties; the kind past the last puts none. */
+static void check_refused_texts(void)
+{
+    for (int kinds = 0; kinds < (KINDS + 1) * (KINDS + 1); kinds++) {
+        property_row row = {{0}, 0, 0};
+        const int order[] = {kinds / (KINDS + 1), kinds % (KINDS + 1)};
+        for (size_t i = 0; i < COUNT_OF(order); i++) {
+            if (order[i] < KINDS) {
+                put_good(&row, (uint8_t)order[i]);
+            }
+        }
+        for (uint8_t column = STRING; column <= DATE_TIME; column++) {
+            const refused_row refused = read_behind(row, column);
+            check_refused(&refused);
+        }
+    }
+    check_refused_nulls();
+    check_refused_types();
 }
 
 static void check_value_bytes(void)
@@ -574,6 +782,7 @@ int main(void)
     check_values();
     check_types();
     check_places();
+    check_refused_texts();
     check_value_bytes();
     check_words();
     printf("layer: %u checks, %u failed\n", checks, failures);

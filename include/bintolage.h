@@ -94,8 +94,9 @@ extern "C" {
  * Of a refused read the log has the records that come before the refused place, and no others.
  *
  * With 6 the two calls on properties say in `place` where the text went bad: the first byte that begins no well-formed
- * character, counted from 0 at the text's own first byte. A character that is cut short or broken is placed at its first
- * byte. With every other answer, 0 for done too, the place is 0; with 6 it may be 0 as well.
+ * character, counted from 0 at the text's own first byte. Everything before it is well-formed; a further byte of a good
+ * character begins none either, and is not meant. A character that is cut short or broken is placed at its first byte. With
+ * every other answer, 0 for done too, the place is 0; with 6 it may be 0 as well.
  */
 #define BINTOLAGE_DONE             0
 #define BINTOLAGE_XY_ABSENT        1  /* read: a list of coordinates is absent where one is needed */
@@ -367,7 +368,8 @@ uint8_t bintolage_read(
  * `stopped`, else 0; 65,536 or more for none. A single byte at the end is no property. Refused: 2, 14, 6, 9.
  *
  * `place` is written refused or not, and says where a text that is refused with 6 went bad, counted behind the four bytes
- * of its length, not from the start of `bytes`. It is the text of the next value behind those in the log.
+ * of its length, not from the start of `bytes`. It is the text of the next value behind those in the log, which
+ * bintolage_refused_text finds.
  */
 uint8_t bintolage_read_properties(
     const uint8_t *bytes, size_t bytes_count,
@@ -404,14 +406,15 @@ uint8_t bintolage_box(
  * FOR A C PROGRAM
  *
  * What follows is inline, in this header alone, over the calls above: it has no memory of its own and decides nothing; it
- * hands a struct's lists on, lays records down and takes them apart. Records are read and written byte by byte, so any
- * byte order and any address will do. A double is IEEE 754's of 64 bits.
+ * hands a struct's lists on, lays records down, takes them apart and walks along property bytes. Records are read and
+ * written byte by byte, so any byte order and any address will do. A double is IEEE 754's of 64 bits.
  *
  *     a record of an event       bintolage_begin, bintolage_end, bintolage_xy, bintolage_coordinate
  *     what a record says         bintolage_event_of, bintolage_feature_of, bintolage_value_of
  *     a feature written          bintolage_start, then bintolage_give, bintolage_give_many, bintolage_give_number,
  *                                bintolage_give_text, bintolage_finish_feature, bintolage_next_feature
  *     a feature read             bintolage_read_feature, bintolage_read_values, bintolage_read_box
+ *     a text refused on reading  bintolage_refused_text
  *     the feature in hand        bintolage_has_feature, bintolage_feature, bintolage_parts, bintolage_property_bytes
  *     an answer in words         bintolage_refusal
  */
@@ -467,6 +470,11 @@ static inline void bintolage_put64(uint8_t *at, uint64_t number)
 {
     bintolage_put32(at, (uint32_t)number);
     bintolage_put32(at + 4, (uint32_t)(number >> 32));
+}
+
+static inline uint16_t bintolage_get16(const uint8_t *at)
+{
+    return (uint16_t)(at[0] | at[1] << 8);
 }
 
 static inline uint32_t bintolage_get32(const uint8_t *at)
@@ -614,7 +622,7 @@ static inline bintolage_value_fields bintolage_value_of(const bintolage_value_re
 {
     const uint8_t *bytes = record->bytes;
     bintolage_value_fields fields;
-    fields.column = (uint16_t)(bytes[0] | bytes[1] << 8);
+    fields.column = bintolage_get16(bytes);
     fields.column_type = bytes[2];
     fields.length = bintolage_get32(bytes + 4);
     fields.word = bintolage_get64(bytes + 8);
@@ -763,7 +771,7 @@ static inline uint8_t bintolage_read_feature(
  * Reads the properties of the feature in hand as values, into the `log_records` records of `log`, and says in *count how
  * many, refused or not. `columns` has the type of each column. *place says where a text that is refused with 6 went bad,
  * counted from the text's own first byte, and is 0 with every other answer; `place` is null where that is not wanted.
- * Refused: 2, 14, 6, 9.
+ * bintolage_refused_text finds that text, among the bintolage_property_bytes of the state. Refused: 2, 14, 6, 9.
  */
 static inline uint8_t bintolage_read_values(
     const bintolage_state *state, const bintolage_memory *memory,
@@ -784,6 +792,83 @@ static inline uint8_t bintolage_read_values(
         BINTOLAGE_NO_STOP,
         bytes, log ? log_records * sizeof *log : 0,
         count, &stopped, place ? place : &unwanted);
+}
+
+/* A text among property bytes: its column, the column's type, and its own bytes; no zero byte ends them. */
+typedef struct bintolage_text {
+    uint16_t column;
+    uint8_t column_type;
+    const uint8_t *bytes;
+    size_t length;
+} bintolage_text;
+
+/* What a property has before its value: its column in two bytes, and before a text its length in four more. */
+#define BINTOLAGE_BEFORE_NUMBER 2
+#define BINTOLAGE_BEFORE_TEXT   6
+
+/* The place, from `at` on, of the next property that has a value, or the end: a column of a type above 14 has none. */
+static inline size_t bintolage_next_value(
+    const uint8_t *bytes, size_t bytes_count, const uint8_t *columns, size_t columns_count, size_t at)
+{
+    while (bytes_count - at >= BINTOLAGE_BEFORE_NUMBER) {
+        const uint16_t column = bintolage_get16(bytes + at);
+        if (column >= columns_count || columns[column] <= BINTOLAGE_COLUMN_BINARY) {
+            break;
+        }
+        at += BINTOLAGE_BEFORE_NUMBER;
+    }
+    return at;
+}
+
+/* The place behind the property at `at`, of which this is the record; the end of the bytes where that would lie behind it. */
+static inline size_t bintolage_behind_value(const bintolage_value_record *record, size_t bytes_count, size_t at)
+{
+    const bintolage_value_fields value = bintolage_value_of(record);
+    const size_t before = value.column_type < BINTOLAGE_COLUMN_STRING ? BINTOLAGE_BEFORE_NUMBER : BINTOLAGE_BEFORE_TEXT;
+    const size_t left = bytes_count - at;
+    return left < before || left - before < value.length ? bytes_count : at + before + value.length;
+}
+
+/* The text of the property at `at`, of length 0 where none stands there whole. Binary is none: any bytes are good for it. */
+static inline bintolage_text bintolage_text_at(
+    const uint8_t *bytes, size_t bytes_count, const uint8_t *columns, size_t columns_count, size_t at)
+{
+    const bintolage_text none = {0, 0, bytes, 0};
+    bintolage_text text = none;
+    if (bytes_count - at < BINTOLAGE_BEFORE_TEXT) {
+        return none;
+    }
+    text.column = bintolage_get16(bytes + at);
+    if (text.column >= columns_count) {
+        return none;
+    }
+    text.column_type = columns[text.column];
+    if (text.column_type < BINTOLAGE_COLUMN_STRING || text.column_type >= BINTOLAGE_COLUMN_BINARY) {
+        return none;
+    }
+    text.bytes = bytes + at + BINTOLAGE_BEFORE_TEXT;
+    text.length = bintolage_get32(bytes + at + BINTOLAGE_BEFORE_NUMBER);
+    return text.length <= bytes_count - at - BINTOLAGE_BEFORE_TEXT ? text : none;
+}
+
+/*
+ * The text that a reading of property bytes refused with 6, so that its column and the byte at its place can be shown. It is
+ * for a reading that answered 6, and is given what that reading was given and came to: the bytes, the column types, and the
+ * log with its count. Whatever else it is given, it reads nothing outside of it, and a null pointer lends nothing; where it
+ * comes to no text, `length` is 0 and `bytes` are those that it was given. A refused text is never empty.
+ */
+static inline bintolage_text bintolage_refused_text(
+    const uint8_t *bytes, size_t bytes_count,
+    const uint8_t *columns, size_t columns_count,
+    const bintolage_value_record *log, uint32_t count)
+{
+    const size_t end = bytes ? bytes_count : 0, types = columns ? columns_count : 0;
+    const uint32_t values = log ? count : 0;
+    size_t at = bintolage_next_value(bytes, end, columns, types, 0);
+    for (uint32_t i = 0; i < values && at < end; i++) {
+        at = bintolage_next_value(bytes, end, columns, types, bintolage_behind_value(&log[i], end, at));
+    }
+    return bintolage_text_at(bytes, end, columns, types, at);
 }
 
 /* The edges of a box. */
@@ -810,6 +895,8 @@ static inline uint8_t bintolage_read_box(const bintolage_memory *memory, uint32_
 
 #undef BINTOLAGE_LISTS
 #undef BINTOLAGE_NO_TYPE
+#undef BINTOLAGE_BEFORE_NUMBER
+#undef BINTOLAGE_BEFORE_TEXT
 
 /* An answer in words. 2 is said of a tree, and of property bytes. */
 static inline const char *bintolage_refusal(uint8_t number)

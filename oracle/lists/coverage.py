@@ -19,10 +19,10 @@ CHANGES = {(0, 1), (0, 2), (1, 0), (1, 2), (2, 0), (2, 1)}
 USABLE, NO_STOP, TOP = 65536, 65536, 2**32 - 1
 FEATURES = (0, 1, 256, 65536, 2**24, TOP)
 NOT_UTF8, NO_ROOM = 6, 12
-# Where a text goes bad. What is read ends before the last.
+# Where a text goes bad; one that is read is never so long that it does at the last of these.
 PLACES = ("at 0", "from 1 on", "from 65,536 on")
-# How many events are taken of many; of a property that is the place.
-Call = collections.namedtuple("Call", "what number taken lent event state marks third")
+# `count` is how many events are taken of many, or a property's place.
+Call = collections.namedtuple("Call", "what number count lent event state marks third")
 Tree = collections.namedtuple("Tree", "declared flags feature lists events readings")
 Read = collections.namedtuple("Read", "number columns stop data values place")
 Written = collections.namedtuple("Written", "number used column kind bits length text place")
@@ -157,9 +157,10 @@ class Lists:
 
     def orders(self):
         """A number that was given, and one behind it in the order that was due too, of texts that go bad behind their first byte."""
-        bad = {case.data for case in self.read if case.number == NOT_UTF8 and case.place}
+        asked = [(case.number, case.place, (case.data, tuple(case.columns or ()), case.stop)) for case in self.read]
+        bad = {what for number, place, what in asked if number == NOT_UTF8 and place}
         written = [case for case in self.written if 11 <= case.kind < 14 and bad_place(case.text)]
-        given = {case.number for case in written} | {case.number for case in self.read if case.data in bad}
+        given = {case.number for case in written} | {number for number, _, what in asked if what in bad}
         cramped = {case.number for case in written if case.used + 6 + len(case.text) > min(case.length, USABLE)}
         return {(number, NOT_UTF8) for number in given} | {(number, NO_ROOM) for number in cramped}
 
@@ -277,7 +278,7 @@ def main():
     show("number of a property among calls", (0, 6, 11, 12, 15, 16), [call.number for call in lists.calls if call.what == PROPERTY])
     show("place of a text that is read", PLACES[:2], whereabouts((case.number, case.place) for case in lists.read))
     show("place of a text that is written", PLACES, whereabouts((case.number, case.place) for case in lists.written))
-    show("place of a text among calls", PLACES[:2], whereabouts((call.number, call.taken) for call in lists.calls if call.what == PROPERTY))
+    show("place of a text among calls", PLACES[:2], whereabouts((call.number, call.count) for call in lists.calls if call.what == PROPERTY))
     show("order with 6", ((9, 6), (15, 6), (16, 6), (6, 12)), lists.orders())
     show("type written", TYPES, lists.types_written())
     show("type read", TYPES, lists.types_read())

@@ -32,9 +32,9 @@ def each_event(row):
             yield Given(call.event, call.number, in_hand(before), call, before)
         elif call.what == EVENTS:
             held = in_hand(before)
-            for i in range(call.taken + (call.number != DONE)):
+            for i in range(call.count + (call.number != DONE)):
                 event = call.event[64 * i:64 * i + 64]
-                yield Given(event, call.number if i == call.taken else DONE, held, call, before)
+                yield Given(event, call.number if i == call.count else DONE, held, call, before)
                 held = feature_of(event)
 
 
@@ -81,8 +81,8 @@ def numbers_behind_next(row):
 
 def run_before(call):
     """The kind of all events up to the one that was refused, or None where there are several, and how many were taken."""
-    kinds = {call.event[64 * i] for i in range(call.taken + 1)}
-    return kinds.pop() if len(kinds) == 1 else None, call.taken
+    kinds = {call.event[64 * i] for i in range(call.count + 1)}
+    return kinds.pop() if len(kinds) == 1 else None, call.count
 
 
 def keeps(before, call):

@@ -205,7 +205,7 @@ def written_cases():
 
 
 def bad_texts_written():
-    """Texts that go bad, with room for them and with less than they take up to there; and past all that is usable, too."""
+    """Texts that go bad, with room for them and with too little; and texts that go bad past all that is usable."""
     for kind, text in zip(itertools.cycle(PLAIN_TEXTS), texts.spoilt()):
         for length in (64, 6):
             yield written_case(kind, 0, text, length=length)

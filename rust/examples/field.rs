@@ -1,9 +1,15 @@
 //! A field edge with two keep-out rings, and what the crew has to know; then a field in two blocks. Each is written, read back
-//! and printed, with the box around it. A name that is not UTF-8 is refused, and the dealer is told where it went bad.
+//! and printed, with the box around it. A name that is not UTF-8 is refused, whether it was sent or typed, and the dealer is
+//! told where it went bad.
 use bintolage::{column_type, event, geometry_type, usable, Event, Memory, Refusal, Tree, Value, ValueRecord, Writer};
 
 const COLUMNS: [u8; 3] = [column_type::DOUBLE, column_type::USHORT, column_type::STRING];
 const NAMES: [&str; 3] = ["depth", "slope", "crew"];
+
+// the columns, by their numbers
+const DEPTH: u16 = 0;
+const SLOPE: u16 = 1;
+const CREW: u16 = 2;
 
 // the numbers of the two features
 const FIELD: u32 = 1;
@@ -11,6 +17,9 @@ const BLOCKS: u32 = 2;
 
 // another of the crew, typed on an old keypad, which writes Latin-1
 const TYPED: &[u8] = b"H. Schr\xe4der";
+
+// properties as an office sends them that has the name from such a keypad: a slope of 3, and the crew
+const SENT: &[u8] = b"\x01\x00\x03\x00\x02\x00\x0b\x00\x00\x00H. Schr\xe4der";
 
 const EDGE: [(f64, f64); 5] = [(0.0, 0.0), (400.0, 0.0), (400.0, 250.0), (0.0, 250.0), (0.0, 0.0)];
 const MAIN_PIPE: [(f64, f64); 5] = [(50.0, 40.0), (50.0, 60.0), (350.0, 60.0), (350.0, 40.0), (50.0, 40.0)];
@@ -47,21 +56,36 @@ fn write_blocks(writer: &mut Writer) -> Result<(), Refusal> {
     writer.event(&Event::end(BLOCKS, geometry_type::MULTI_POLYGON, false, 0))
 }
 
+fn print_bad_text(origin: &str, column: u16, text: &[u8], at: usize) {
+    println!("{origin}, {}: not UTF-8 at byte {at} ({:#04x})", NAMES[column as usize], text[at]);
+}
+
+/// A reading says the place alone; the text is found behind the values that came before it.
+fn read_sent() -> Result<(), Refusal> {
+    let mut log = [0; 8 * usable::VALUE_BYTES];
+    let read = bintolage::read_properties(SENT, Some(&COLUMNS), None, &mut log);
+    if let (Err(Refusal::NotUtf8 { at }), Some(text)) = (read.answer, read.refused_text(SENT, &COLUMNS, &log)) {
+        print_bad_text("sent", text.column, text.bytes, at);
+        return Ok(());
+    }
+    read.answer
+}
+
 /// A name that is not UTF-8 is refused, and the feature goes on as though it had not come.
 fn write_typed(writer: &mut Writer, name: &[u8]) -> Result<(), Refusal> {
-    let answer = writer.text(2, COLUMNS[2], name);
+    let answer = writer.text(CREW.into(), COLUMNS[CREW as usize], name);
     if let Err(Refusal::NotUtf8 { at }) = answer {
-        println!("{}: not UTF-8 at byte {at} ({:#04x})", NAMES[2], name[at]);
+        print_bad_text("typed", CREW, name, at);
         return Ok(());
     }
     answer
 }
 
 fn write_properties(writer: &mut Writer) -> Result<(), Refusal> {
-    writer.property(0, Value::Double(1.15))?;
-    writer.property(1, Value::UShort(3))?;
+    writer.property(DEPTH.into(), Value::Double(1.15))?;
+    writer.property(SLOPE.into(), Value::UShort(3))?;
     write_typed(writer, TYPED)?;
-    writer.property(2, Value::String("Jensen, Søren"))
+    writer.property(CREW.into(), Value::String("Jensen, Søren"))
 }
 
 fn print_event(e: Event) {
@@ -108,6 +132,7 @@ fn print_properties(bytes: &[u8]) -> Result<(), Refusal> {
 }
 
 fn main() -> Result<(), Refusal> {
+    read_sent()?;
     // a small terminal's memory; z, m, t and tm are not used
     let (mut table, mut xy, mut ends, mut properties) = ([0; 8 * usable::GEOMETRY_BYTES], [0; 128], [0; 64], [0; 256]);
     let memory =

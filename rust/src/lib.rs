@@ -12,6 +12,7 @@
 //! feature, and a reading says the number that it is given, so that one log can take several features.
 //!
 //! A text that is not UTF-8 is refused with the place where it went bad, on writing and on reading: [`Refusal::NotUtf8`].
+//! [`PropertiesRead::refused_text`] finds the text that a reading refused.
 #![no_std]
 
 #[rustfmt::skip] // a pointer and its count on one line
@@ -32,7 +33,7 @@ mod writer;
 
 pub use event::Event;
 pub use memory::{Memory, Tree};
-pub use properties::{read_properties, PropertiesRead};
+pub use properties::{read_properties, PropertiesRead, RefusedText};
 pub use refusal::Refusal;
 pub use state::{State, StateWords, Taken};
 pub use tree::{Boxed, Read};

@@ -95,7 +95,8 @@ impl Refusal {
         }
     }
 
-    /// The answer of any other call: none of them has a text, so none answers 6.
+    /// The answer of a call that has no properties, where 2 is about parts, and of one on properties where it is neither 2 nor
+    /// 6. No 6 comes here, since it has a place.
     pub(crate) fn of(number: u8) -> Result<(), Refusal> {
         match number {
             0 => Ok(()),
@@ -115,7 +116,7 @@ impl Refusal {
             15 => Err(Refusal::NotItsTurn),
             16 => Err(Refusal::ColumnTooLarge),
             17 => Err(Refusal::OtherFeature),
-            _ => unreachable!("the library answers no other number"),
+            _ => unreachable!("no call answers {number} without a place"),
         }
     }
 }

@@ -42,8 +42,8 @@ impl<'a> Writer<'a> {
         self.state.property(column, column_type, bits, text, self.properties)
     }
 
-    /// A text as it was typed or sent, for a type from 11 to 14; other types are malformed. Where its bytes are not UTF-8 the
-    /// refusal has the place.
+    /// Takes a text as it was typed or sent, for a column type from 11 to 14; any other type is refused as malformed. Where a
+    /// String, Json or DateTime is not UTF-8, the refusal has the place. Refused: 15, 16, 11, 6, 12.
     pub fn text(&mut self, column: u32, column_type: u8, text: &[u8]) -> Result<(), Refusal> {
         let column_type = if column_type < column_type::STRING { NO_TYPE } else { column_type };
         self.state.property(column, column_type, 0, text, self.properties)

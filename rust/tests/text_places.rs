@@ -1,6 +1,9 @@
-//! Where a text went bad: the place that comes with refusal 6, in both directions, beside the one that Rust's own check says.
+//! Where a text went bad: the place that comes with refusal 6, in both directions, beside the one that Rust's own check says;
+//! and which text it is that a reading refused.
 mod common;
-use bintolage::{bare, column_type, read_properties, usable, Refusal, State, StateWords, Writer};
+use bintolage::{
+    bare, column_type, read_properties, usable, PropertiesRead, Refusal, RefusedText, State, StateWords, Writer,
+};
 use common::Room;
 use std::str::from_utf8;
 
@@ -187,6 +190,102 @@ fn another_answer_to_a_reading_has_place_0() {
     assert_eq!(reading(&bad[..bad.len() - 1], Some(&[column_type::STRING]), 1), (14, 0, 0));
     assert_eq!(reading(&good, Some(&[column_type::STRING]), 0), (9, 0, 0));
     assert_eq!(reading(&bad, Some(&[column_type::STRING]), 0), (6, 0, 7), "6 stands before 9");
+}
+
+/// The type of each column, those of the texts last: 15 and 255 have no value.
+const ROW_TYPES: [u8; 7] =
+    [column_type::USHORT, column_type::BINARY, 15, 255, column_type::STRING, column_type::JSON, column_type::DATE_TIME];
+const TEXT_COLUMNS: [u16; 3] = [4, 5, 6];
+
+/// The bytes of a good property in the column: a Binary is no UTF-8, and is good.
+fn good_property(column: u16) -> Vec<u8> {
+    match ROW_TYPES[usize::from(column)] {
+        column_type::USHORT => [column.to_le_bytes(), [0xff; 2]].concat(),
+        column_type::BINARY => property_of(column, TYPED),
+        15 | 255 => column.to_le_bytes().to_vec(),
+        _ => property_of(column, "µ".as_bytes()),
+    }
+}
+
+/// Property bytes with a text that is refused, which stands last but for a number, and what their reading came to.
+struct RefusedRow {
+    bytes: Vec<u8>,
+    text: RefusedText<'static>,
+    read: PropertiesRead,
+    log: Vec<u8>,
+}
+
+const NUMBER: u16 = 0;
+
+/// The log has room for more records than there are values.
+fn read_behind(before: &[u8], column: u16) -> RefusedRow {
+    let bytes = [before, &property_of(column, TYPED), &good_property(NUMBER)].concat();
+    let mut log = vec![0; 4 * usable::VALUE_BYTES];
+    let read = read_properties(&bytes, Some(&ROW_TYPES), None, &mut log);
+    assert_eq!(read.answer, Err(Refusal::NotUtf8 { at: 7 }));
+    let text = RefusedText { column, column_type: ROW_TYPES[usize::from(column)], bytes: TYPED };
+    RefusedRow { bytes, text, read, log }
+}
+
+/// A text of each type that is refused, behind none, each, and every two good properties.
+fn refused_rows() -> Vec<RefusedRow> {
+    let columns = 0..ROW_TYPES.len() as u16;
+    let one: Vec<Vec<u8>> = [vec![]].into_iter().chain(columns.map(good_property)).collect();
+    let two = one.iter().flat_map(|first| one.iter().map(move |second| [&first[..], second].concat()));
+    two.flat_map(|before| TEXT_COLUMNS.map(|column| read_behind(&before, column))).collect()
+}
+
+#[test]
+fn the_text_that_was_refused_is_found() {
+    for RefusedRow { bytes, text, read, log } in refused_rows() {
+        assert_eq!(read.refused_text(&bytes, &ROW_TYPES, &log), Some(text), "{bytes:x?}");
+        let other = PropertiesRead { answer: Err(Refusal::ValueCut), ..read };
+        assert_eq!(other.refused_text(&bytes, &ROW_TYPES, &log), None, "with another answer");
+    }
+}
+
+#[test]
+fn a_text_or_a_column_that_is_cut_is_not_found() {
+    for RefusedRow { bytes, text, read, log } in refused_rows() {
+        let end = bytes.len() - good_property(NUMBER).len();
+        for length in 0..=bytes.len() {
+            let wanted = (length >= end).then_some(text);
+            assert_eq!(read.refused_text(&bytes[..length], &ROW_TYPES, &log), wanted, "{bytes:x?}, {length} of them");
+        }
+        for count in 0..=ROW_TYPES.len() {
+            let wanted = (count > usize::from(text.column)).then_some(text);
+            assert_eq!(read.refused_text(&bytes, &ROW_TYPES[..count], &log), wanted, "{bytes:x?}, {count} columns");
+        }
+    }
+}
+
+#[test]
+fn a_refused_text_is_a_string_a_json_or_a_date_time() {
+    let bytes = property_of(0, b"a");
+    let read = PropertiesRead { answer: Err(Refusal::NotUtf8 { at: 0 }), count: 0, stopped: false };
+    for column_type in 0..=255 {
+        let wanted = TEXT_TYPES.contains(&column_type).then_some(RefusedText { column: 0, column_type, bytes: b"a" });
+        assert_eq!(read.refused_text(&bytes, &[column_type], &[]), wanted, "type {column_type}");
+    }
+}
+
+#[test]
+fn whatever_is_asked_for_a_refused_text_is_answered() {
+    let logs: Vec<Vec<u8>> = (1..=255).map(|byte| vec![byte; 4 * usable::VALUE_BYTES + 3]).collect();
+    for RefusedRow { bytes, read, log, .. } in refused_rows() {
+        for count in [0, 1, 2, 3, 4, 5, usize::MAX] {
+            let read = PropertiesRead { count, ..read };
+            read.refused_text(&bytes, &ROW_TYPES, &log);
+            for length in 0..log.len() {
+                read.refused_text(&bytes, &ROW_TYPES, &log[..length]);
+            }
+        }
+        for log in &logs {
+            let read = PropertiesRead { count: 1, ..read };
+            assert_eq!(read.refused_text(&bytes, &ROW_TYPES, log), None, "values longer than the bytes");
+        }
+        read.refused_text(&log, &bytes, &logs[0]);
+    }
 }
 
 #[test]

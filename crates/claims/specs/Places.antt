@@ -1,4 +1,4 @@
--- SPEC 9.13 over the calls that a machine links: what the place says that each property call writes beside its answer. The premises are the calls' own `ensures`.
+-- SPEC 9.13 over the calls that a machine links: each property call writes a place beside its answer, and this is what it says. The premises are the calls' own `ensures`.
 use mathlib.Core.Path.{_≡_, sym, _∙_}
 use mathlib.Core.Bool.{Bool, true}
 use mathlib.Core.List.{List}

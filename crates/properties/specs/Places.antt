@@ -1,6 +1,6 @@
 -- SPEC 9.13: the place that goes with an answer, written and read. With 6 it is that of the refused text's first bad byte, and with any other answer 0.
 use mathlib.Core.Path.{_≡_, refl, sym, _∙_}
-use mathlib.Core.Bool.{Bool, true, false, cond, not, _&&_}
+use mathlib.Core.Bool.{Bool, true, false, cond, not}
 use mathlib.Core.List.{List}
 use Prim.Native.Nat.{ℕ, _+_, _-_, _≤_, _<_, min}
 use native.Mathlib.Omega.{arith}
@@ -100,7 +100,7 @@ item-other bytes columns at number =
     (λ e six. let same : 14 ≡ number = cc in omega arith)
     (λ listed whole fails e six. absurd (never (cc))) (λ next h l e six. absurd (never (cc))) (λ kind len word next h l e six. absurd (never (cc)))
 
--- from every place that it comes to, a reading ends at the same
+-- from every place that it comes to, what is left of a reading has the bad byte's place that all of it has
 same-bad : (bytes columns : List ℕ) (last at : ℕ) → Reached bytes columns last at → badFrom bytes columns last 0 ≡ badFrom bytes columns last at
 unfolding onItem
 same-bad bytes columns last at first = refl
@@ -108,7 +108,7 @@ same-bad bytes columns last next (skipped {at} r e) = same-bad bytes columns las
 same-bad bytes columns last next (found {at} {value = value} r e other) =
     same-bad bytes columns last at r ∙ on-unrolled endPlace keepPlace bytes columns last at ∙ rw (e, ne-eqb (value .column) last other)
 
--- so there is one text for which it may be refused, and one place
+-- so there is one place with which it may be refused
 pub bad-is : (bytes columns : List ℕ) (last place : ℕ) → RefusedText bytes columns last place → badFrom bytes columns last 0 ≡ place
 unfolding onItem
 bad-is bytes columns last place t =

@@ -65,6 +65,6 @@ fn differences(answer: PropertiesRead, log: &[u8], case: &[u8]) -> u8 {
     )
         | unless(answer.count == number(case, COUNT), difference::COUNT)
         | unless(answer.stopped == stopped, difference::ANSWER)
-        | unless(answer.place == number(case, PLACE), difference::ANSWER)
+        | unless(answer.place == number(case, PLACE), difference::COUNT)
         | unless(replay::holds(log, 0, records), difference::MEMORY)
 }

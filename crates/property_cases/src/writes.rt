@@ -68,7 +68,7 @@ fn differences(answer: PropertyPut, buffer: &[u8], case: &[u8]) -> u8 {
             answer.used as usize == number(case, USED_AFTER),
             difference::COUNT,
         )
-        | unless(answer.place == number(case, PLACE), difference::ANSWER)
+        | unless(answer.place == number(case, PLACE), difference::COUNT)
         | unless(
             replay::holds(buffer, number(case, USED), laid),
             difference::MEMORY,

@@ -52,7 +52,7 @@ itemAt bytes columns at =
     (cond (leb (length columns) (wordAt 2 bytes at)) (Refused 2)
     (valueAt bytes (wordAt 2 bytes at) (getD columns (wordAt 2 bytes at) 0) (at + 2)))
 
--- ---- a reading, by what comes of it: `ended` by its number and a bad byte's place, `said` by a value and what comes behind it
+-- ---- a reading. It comes to an R: `ended` says to which, of the number that it ends with and the place of a bad byte; `said`, of a value and of what the rest comes to.
 
 module _ {R : Type 0} (ended : ℕ → ℕ → R) (said : Value → R → R) where
   -- the reading ends after a value of the named column (SPEC 9.11)

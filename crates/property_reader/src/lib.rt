@@ -36,7 +36,7 @@ pub fn read_properties(
     ensures { λ r. ⌜ r .place ≡ placed (r .number) (badIn (now (bytes .entry)) «has_columns» (now (columns .entry)) stop) ⌝ }
 {
     if !has_columns {
-        return unplaced(refusal::DONE, 0);
+        return ended(refusal::DONE, 0);
     }
     let end = usable_length(bytes.len());
     read_all(&bytes[0..end], columns, stop, log)
@@ -54,10 +54,10 @@ fn read_all(bytes: &[u8], columns: &[u8], stop: u32, log: &mut [u8]) -> Properti
         let item = item_at(bytes, columns, at);
         match item {
             Item::End => {
-                return unplaced(refusal::DONE, count);
+                return ended(refusal::DONE, count);
             }
             Item::Refused(number) => {
-                return unplaced(number, count);
+                return ended(number, count);
             }
             Item::NotUtf8(place) => {
                 return PropertiesRead {
@@ -73,7 +73,7 @@ fn read_all(bytes: &[u8], columns: &[u8], stop: u32, log: &mut [u8]) -> Properti
             Item::Found(value, next) => {
                 let said = say_value(log, count, value);
                 if said.number != refusal::DONE {
-                    return unplaced(said.number, said.count);
+                    return ended(said.number, said.count);
                 }
                 if value.column as u32 == stop {
                     return PropertiesRead {
@@ -90,7 +90,8 @@ fn read_all(bytes: &[u8], columns: &[u8], stop: u32, log: &mut [u8]) -> Properti
     }
 }
 
-fn unplaced(number: u8, count: usize) -> PropertiesRead
+// A reading that ended after no named column, and for no text that went bad.
+fn ended(number: u8, count: usize) -> PropertiesRead
     ensures { λ r. ⌜ r ≡ record { number = number; count = count; stopped = false; place = 0 } ⌝ }
 {
     PropertiesRead {

@@ -17,7 +17,7 @@ malformed kind bits = ltb 14 kind || (eqb kind 2 && ltb 1 bits) || (leb kind 10 
 unfoldable pub textOk : ℕ → List ℕ → Bool
 textOk kind text = cond (isText kind) (isUtf8 text) true
 
--- what the check of a value's bytes says of them: they are the type's, or they are not, from a place on
+-- what the check of a text finds: its type allows it, or it does not, and the first bad byte stands at a place
 abbrev pub Checked : ℕ → List ℕ → Bad → Type 0
 Checked kind text Nowhere = textOk kind text ≡ true
 Checked kind text (At place) = (textOk kind text ≡ false) × (place ≡ firstBad text)

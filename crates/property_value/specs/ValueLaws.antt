@@ -1,5 +1,5 @@
 -- Laws of values.
-use mathlib.Core.Path.{_≡_, refl, sym}
+use mathlib.Core.Path.{_≡_, refl, sym, ap, _∙_}
 use mathlib.Core.Bool.{Bool, true, false, cond, _||_}
 use mathlib.Core.List.{List}
 use Prim.Native.Nat.{ℕ, _^_, _≤_, _<_}
@@ -68,6 +68,13 @@ pub checked : (kind : ℕ) (text : List ℕ) (b : Bad) → isText kind ≡ true 
 unfolding textOk
 checked kind text Nowhere k t = rw k (text-utf8 text t)
 checked kind text (At place) k t = rw k (at-bad text place t)
+
+-- there is one such finding
+pub checked-once : (kind : ℕ) (text : List ℕ) (a b : Bad) → Checked kind text a → Checked kind text b → a ≡ b
+checked-once kind text Nowhere Nowhere h k = refl
+checked-once kind text Nowhere (At place) h k = absurd (never (sym (k .0) ∙ h))
+checked-once kind text (At place) Nowhere h k = absurd (never (sym (h .0) ∙ k))
+checked-once kind text (At place) (At other) h k = ap At (h .1 ∙ sym (k .1))
 
 -- ---- a place
 

@@ -34,9 +34,9 @@ pub fn put_property(
     ensures answer { λ r. ⌜ r ≡ putOf waiting used column kind bits (now (text .entry)) (now (buffer .entry)) ⌝ }
     ensures bytes { λ _. ⌜ now (buffer .exit) ≡ bytesAfter waiting used column kind bits (now (text .entry)) (now (buffer .entry)) ⌝ }
 {
-    let refused = refusal_of(waiting, used, column, kind, bits, text, buffer.len());
-    if refused.number != refusal::DONE {
-        return refused;
+    let judged = refusal_of(waiting, used, column, kind, bits, text, buffer.len());
+    if judged.number != refusal::DONE {
+        return judged;
     }
     lay_property(used as usize, column as u16, kind, bits, text, buffer);
     PropertyPut {
@@ -46,7 +46,7 @@ pub fn put_property(
     }
 }
 
-// What a refused write answers, and 0 where it is none: all is settled here, so that a refused write changes nothing.
+// Why a write is refused, and where, or the number 0: all is settled here, so that a refused write changes nothing.
 // A text is read before its room is asked about, since that is the order of the refusals.
 fn refusal_of(
     waiting: bool,

@@ -6,10 +6,10 @@ pub const NONE: u8 = 0;
 // The number that is answered.
 pub const NUMBER: u8 = 1;
 
-// How many records or bytes the call says.
+// How many records or bytes the call says, or a place in a text.
 pub const COUNT: u8 = 2;
 
-// What is handed back beside that: a state, a record, a box, whether a reading stopped, a place in a text.
+// What is handed back beside that: a state, a record, a box, whether a reading stopped.
 pub const ANSWER: u8 = 4;
 
 // What is left in the memory that was lent.

@@ -7,14 +7,12 @@ use crate::verdict::say_verdict;
 use compared::same;
 use console::end_line;
 use console::say;
-use console::say_count;
 use console::say_number;
 use console::say_refusal;
 use console::say_word;
 use console::show_map;
 use kinds::answer::Answer;
 use kinds::refusal;
-use property_reader::PropertiesRead;
 
 pub struct Feature {
     // As people count.
@@ -99,16 +97,6 @@ fn show_read(properties: usize, given: &[u8], read: &[u8], bytes: &[u8], columns
     show_values(read, bytes, columns);
 }
 
-fn show_unread(read: PropertiesRead) {
-    say(b"  no properties, reading them back is ");
-    say_refusal(read.number);
-    if read.number == refusal::NOT_UTF8 {
-        say(b" at byte ");
-        say_count(read.place);
-    }
-    end_line();
-}
-
 // Reads the properties back: `given` has the values as they are to come, and `columns` the types and names.
 pub fn show_properties(
     properties: Properties,
@@ -121,7 +109,9 @@ pub fn show_properties(
     let kinds = first(columns, properties.columns);
     let read = property_reader::read_properties(used, true, kinds, NO_STOP, values);
     if read.number != refusal::DONE {
-        return show_unread(read);
+        say(b"  no properties, reading them back is ");
+        say_refusal(read.number);
+        return end_line();
     }
     show_read(
         properties.given,

@@ -23,7 +23,7 @@ ghost use Rattle.runs.specs.Run.{valuesRoom, valuesOf, Ran};
 pub enum Stop {
     // There is no whole record left.
     End,
-    // The next event is refused: it is of another feature; or it is of the one in hand and plain, and there is no room for it or it is not its turn.
+    // The next event is refused: it is of another feature, or it is its own and plain, and there is no room for it or it is not its turn.
     Blocked { own: bool },
     // The next event is of the feature in hand, and not plain.
     Other(Event),

@@ -14,7 +14,7 @@ use bintolage::usable::STATE_WORDS;
 use original::answer::{COLUMN_TOO_LARGE, DONE, MALFORMED, NOT_ITS_TURN, NO_ROOM, OTHER_FEATURE, TEXT_NOT_UTF8, TYPES_MIXED};
 use original::events::{feature_of, is_malformed};
 use original::feature_writer::peek::State;
-use original::properties::value;
+use original::properties::{value, WIDTHS};
 use original::tree::{put_list, Store, ENDS, MOST_RECORDS, MOST_WORDS};
 use original::writing::Writer;
 
@@ -84,13 +84,7 @@ fn additions(event: &[u8], mode: u8) -> Additions {
 
 /// The bytes that a property takes, its column's two among them.
 fn property_size(kind: u8, text: &[u8]) -> usize {
-    2 + match kind {
-        0..=2 => 1,
-        3 | 4 => 2,
-        5 | 6 | 9 => 4,
-        7 | 8 | 10 => 8,
-        _ => 4 + text.len(),
-    }
+    2 + WIDTHS.get(usize::from(kind)).map_or(4 + text.len(), |width| *width as usize)
 }
 
 /// What a text that is not UTF-8 covers: the number that came before, or that there was no room for it either.

@@ -3,7 +3,7 @@
 use crate::input::{Row, What};
 use crate::port::{self, Memory, Words};
 use crate::tally::{Asked, Tally};
-use original::answer::{DONE, TEXT_NOT_UTF8};
+use original::answer::DONE;
 
 const EVENT: usize = 64;
 
@@ -35,7 +35,7 @@ pub fn compare(row: &Row, tally: &mut Tally) -> Result<(), String> {
         }
         runs.events(&run, tally)?;
         run.clear();
-        runs.other(&call.what)?;
+        runs.other(&call.what);
     }
     runs.events(&run, tally)
 }
@@ -70,16 +70,12 @@ impl Runs<'_> {
         (DONE, run.len() / EVENT)
     }
 
-    /// A property has a place with 6 alone.
-    fn other(&mut self, what: &What) -> Result<(), String> {
+    fn other(&mut self, what: &What) {
         for Side { words, memory } in [&mut self.one_by_one, &mut self.many] {
             match what {
                 What::Event { .. } => {}
                 What::Property { column, kind, bits, text } => {
-                    let (number, place) = port::property(words, *column, *kind, *bits, text, memory, self.row.held);
-                    if number != TEXT_NOT_UTF8 && place != 0 {
-                        return Err(format!("Property answered {number} and the place {place}"));
-                    }
+                    port::property(words, *column, *kind, *bits, text, memory, self.row.held);
                 }
                 What::Finish => {
                     port::finish(words, memory, self.row.held);
@@ -89,6 +85,5 @@ impl Runs<'_> {
                 }
             }
         }
-        Ok(())
     }
 }

@@ -28,14 +28,14 @@ read-all-spec =
     (λ c. c .before .before .before .before .loop .inv .long)
     (λ c.
     let told = c .before .before .before in
-    rw (c .unplaced .ensures) (at-end (told .before .loop .inv) (sym (c .before .enum-told .given .1) ∙ told .item-at .ensures)))
+    rw (c .ended .ensures) (at-end (told .before .loop .inv) (sym (c .before .enum-told .given .1) ∙ told .item-at .ensures)))
     (λ c. search needs)
     (λ c κs. search needs)
     (λ c. c .before .before .before .before .before .loop .inv .long)
     (λ c.
     let told = c .before .before .before .before in
     let refused = c .before .before .item .given in
-    rw (c .unplaced2 .ensures) (at-refused (told .before .loop .inv) (refused .0 .0) (sym (refused .1) ∙ told .item-at .ensures)))
+    rw (c .ended2 .ensures) (at-refused (told .before .loop .inv) (refused .0 .0) (sym (refused .1) ∙ told .item-at .ensures)))
     (λ c. search needs)
     (λ c. c .before .before .before .before .loop .inv .long)
     (λ c.
@@ -61,7 +61,7 @@ read-all-spec =
     let said = c .before .before .before .before .before in
     let told = said .before .before .before .before .before in
     let found = said .before .before .before .item4 .given in
-    rw (c .unplaced3 .ensures)
+    rw (c .ended3 .ensures)
     (at-full (told .before .loop .inv) (found .0 .0) (found .0 .1 .0) (sym (found .1) ∙ told .item-at .ensures) (said .say-value .ensures) (c .before .if1 .taken)))
     (λ c. search needs)
     (λ c.

@@ -15,7 +15,7 @@ read-properties-spec =
     (λ c κs. search needs)
     (λ c. unfold onBytes run says stopped placed in
     let start = c .before .before .before .before .before .args in
-    rw (c .unplaced .ensures, not-true (start .has-columns) (c .before .if1 .taken)) (refl, (refl, refl)))
+    rw (c .ended .ensures, not-true (start .has-columns) (c .before .if1 .taken)) (refl, (refl, refl)))
     (λ c κs. search needs)
     (λ c. search needs)
     (λ c. search needs)

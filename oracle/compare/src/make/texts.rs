@@ -114,13 +114,13 @@ fn among_others(give: &mut dyn FnMut(Input), kind: u8, texts: &[Vec<u8>]) {
     texts.iter().enumerate().for_each(|(i, text)| give(read(kind, &before, text, i)));
 }
 
-/// In every second list its column is the one to stop at.
-fn read(kind: u8, before: &[u8], text: &[u8], cut: usize) -> Input {
+/// In every second list its column is the one to stop at; the log is cut elsewhere in each.
+fn read(kind: u8, before: &[u8], text: &[u8], nth: usize) -> Input {
     let column = kind - TYPES[0];
     let length = (text.len() as u32).to_le_bytes();
     let bytes = [before, &[column, 0], &length, text, &BEHIND].concat();
-    let stop = [65_536, column.into()][cut % 2];
-    Input::Properties(Properties { bytes, columns: Some(COLUMNS.to_vec()), stop, cut: cut as u32 })
+    let stop = [65_536, column.into()][nth % 2];
+    Input::Properties(Properties { bytes, columns: Some(COLUMNS.to_vec()), stop, cut: nth as u32 })
 }
 
 /// The last one is also written to a column that is too large, and while the feature waits.
