@@ -1,6 +1,6 @@
 /* The inline layer of bintolage.h, checked: records that are built are read back, null lists are lent as none, features are
- * told apart by their numbers, a text that went bad has its place and is found, and every answer has its words. Prints how many
- * checks were made and how many failed. */
+ * told apart by their numbers, well-known binary becomes the events that are built, a text that went bad has its place and is
+ * found, and every answer has its words. Prints how many checks were made and how many failed. */
 #include "bintolage.h"
 
 #include <stdio.h>
@@ -311,6 +311,42 @@ static void check_log(void)
         bintolage_put32(log[i].bytes + 12, 1);
         check("all else as it was given", memcmp(&log[i], &given[i % 3], sizeof log[i]) == 0);
     }
+}
+
+/* Whether a reading of the bytes answers so, and leaves so many of the point's events in a log of at most 4 records. */
+static int is_point(const uint8_t *wkb, size_t bytes, size_t log_records, uint8_t answer, uint32_t wanted)
+{
+    const bintolage_event_record point[] = {
+        bintolage_begin(FEATURE, BINTOLAGE_POINT, 0, 0, 0), bintolage_xy(FEATURE, -2, unusual_double(0), 0),
+        bintolage_end(FEATURE, BINTOLAGE_POINT, 0, 0)};
+    bintolage_event_record log[4];
+    uint32_t count = MOST;
+    return bintolage_read_wkb_events(wkb, bytes, FEATURE, log, log_records, &count) == answer && count == wanted &&
+           memcmp(log, point, wanted * sizeof *log) == 0;
+}
+
+/* A point in both byte orders, and a byte behind it. */
+static void check_wkb(void)
+{
+    static const uint8_t big[] = {
+        0, 0, 0, 0, 1, 0xc0, 0, 0, 0, 0, 0, 0, 0, 0x7f, 0xf8, 0, 0, 0, 0xc0, 0xff, 0xee, 0};
+    static const uint8_t little[] = {
+        1, 1, 0, 0, 0, 0, 0, 0, 0, 0, 0, 0, 0xc0, 0xee, 0xff, 0xc0, 0, 0, 0, 0xf8, 0x7f, 0};
+    static const uint8_t *const orders[] = {big, little};
+    const size_t whole = sizeof big - 1;
+    uint32_t count = MOST;
+    for (size_t i = 0; i < COUNT_OF(orders); i++) {
+        check("well-known binary", is_point(orders[i], whole, 4, BINTOLAGE_DONE, 3));
+        check("a log of its length", is_point(orders[i], whole, 3, BINTOLAGE_DONE, 3));
+        check("a log too short for it", is_point(orders[i], whole, 2, BINTOLAGE_LOG_FULL, 2));
+        check("no log for it", bintolage_read_wkb_events(
+            orders[i], whole, FEATURE, NULL, 3, &count) == BINTOLAGE_LOG_FULL && count == 0);
+        check("a byte less", is_point(orders[i], whole - 1, 4, BINTOLAGE_WKB_CUT, 1));
+        check("a byte more", is_point(orders[i], whole + 1, 4, BINTOLAGE_WKB_LEFT_OVER, 3));
+    }
+    check("no bytes", is_point(NULL, whole, 4, BINTOLAGE_WKB_CUT, 0));
+    check("no bytes, and no log",
+          bintolage_read_wkb_events(NULL, whole, FEATURE, NULL, 3, &count) == BINTOLAGE_WKB_CUT && count == 0);
 }
 
 /* One level more than there may be. */
@@ -756,8 +792,8 @@ static void check_words(void)
     static const char unknown[] = "a number that no call answers";
     for (int number = 0; number < 256; number++) {
         const char *words = bintolage_refusal((uint8_t)number);
-        check("words", words[0] != 0 && (strcmp(words, unknown) == 0) == (number > 17));
-        for (int other = 0; other < number && number < 18; other++) {
+        check("words", words[0] != 0 && (strcmp(words, unknown) == 0) == (number > 20));
+        for (int other = 0; other < number && number < 21; other++) {
             check("words of its own", strcmp(words, bintolage_refusal((uint8_t)other)) != 0);
         }
     }
@@ -778,6 +814,7 @@ int main(void)
     check_held(FEATURE);
     check_held(MOST);
     check_log();
+    check_wkb();
     check_boxes();
     check_values();
     check_types();

@@ -1,6 +1,7 @@
 /* How deep the stack of each call goes: each is made on a stack of its own, painted before it; the lowest byte that changed
  * tells. Arguments that go by the stack are counted. Reading is tried with every type at the bottom of 16 levels, with 0, 1
- * and 2 ends; a box with 16 levels and 17, of records that have one part or share several. */
+ * and 2 ends; well-known binary with every type in 14 to 16 collections, in both byte orders; a box with 16 levels and 17, of
+ * records that have one part or share several. */
 #define _XOPEN_SOURCE 700
 #include "bintolage.h"
 
@@ -20,7 +21,8 @@ static uint8_t table[(BINTOLAGE_LEVELS + 1) * BINTOLAGE_GEOMETRY_BYTES];
 static uint64_t xy[64], z[32], m[32], t[32], tm[32];
 static uint32_t ends[32];
 static uint8_t event[BINTOLAGE_EVENT_BYTES];
-static uint8_t buffer[256], records[128 * 64];
+static uint8_t buffer[256], records[128 * 64], wkb[256];
+static size_t wkb_bytes;
 static const uint8_t text[] = {'S', 0xc3, 0xb8, 'r', 'e', 'n'};
 static const uint8_t columns[] = {BINTOLAGE_COLUMN_STRING};
 static uint32_t count;
@@ -40,6 +42,7 @@ static void property(void)
 static void finish(void) { bintolage_finish(&state, table, sizeof table, POOLS); }
 static void next(void) { bintolage_next(&state, table, sizeof table, POOLS); }
 static void read_tree(void) { bintolage_read(table, sizeof table, POOLS, 0, 15, 7, records, sizeof records, &count); }
+static void read_wkb(void) { bintolage_read_wkb(wkb, wkb_bytes, 7, records, sizeof records, &count); }
 static void read_properties(void)
 {
     bintolage_read_properties(buffer, state.words[2], 1, columns, sizeof columns, BINTOLAGE_NO_STOP, records, sizeof records,
@@ -116,6 +119,63 @@ static long deepest_read(int *deepest)
     return most;
 }
 
+static void put_number(uint8_t mark, uint32_t number)
+{
+    for (int i = 0; i < 4; i++) {
+        wkb[wkb_bytes++] = (uint8_t)(number >> 8 * (mark ? i : 3 - i));
+    }
+}
+
+static void put_head(uint8_t mark, uint32_t type)
+{
+    wkb[wkb_bytes++] = mark;
+    put_number(mark, type);
+}
+
+/* A Point, a LineString or a Polygon of one pair, which is zeros; a pair of a line has one count before it, of a polygon two. */
+static void put_single(uint8_t mark, uint32_t type)
+{
+    put_head(mark, type);
+    for (uint32_t counts = 1; counts < type; counts++) {
+        put_number(mark, 1);
+    }
+    wkb_bytes += 16;
+}
+
+/* So many collections one in the other, and a geometry of a type from 1 to 6 in the innermost; a Multi has one member. */
+static void put_wkb(uint8_t mark, uint32_t collections, uint32_t type)
+{
+    memset(wkb, 0, sizeof wkb);
+    wkb_bytes = 0;
+    for (uint32_t i = 0; i < collections; i++) {
+        put_head(mark, BINTOLAGE_GEOMETRY_COLLECTION);
+        put_number(mark, 1);
+    }
+    if (type <= BINTOLAGE_POLYGON) {
+        put_single(mark, type);
+    } else {
+        put_head(mark, type);
+        put_number(mark, 1);
+        put_single(mark, type - 3);
+    }
+}
+
+/* In 14 collections a Multi's member is at level 16; in 15 it is refused, and in 16 every type is. */
+static long deepest_read_wkb(void)
+{
+    long most = 0;
+    for (uint8_t mark = 0; mark < 2; mark++) {
+        for (uint32_t collections = BINTOLAGE_LEVELS - 2; collections <= BINTOLAGE_LEVELS; collections++) {
+            for (uint32_t type = BINTOLAGE_POINT; type <= BINTOLAGE_MULTI_POLYGON; type++) {
+                put_wkb(mark, collections, type);
+                long d = depth(read_wkb);
+                most = d > most ? d : most;
+            }
+        }
+    }
+    return most;
+}
+
 /* Records one below the other, each with a pair and with the next records for its parts, `reach` of them or all that follow. */
 static void share(uint32_t levels, uint32_t reach)
 {
@@ -170,6 +230,7 @@ int main(void)
     printf("%-26s %5ld\n", "read_properties", depth(read_properties));
     printf("%-26s %5ld\n", "finish", depth(finish));
     printf("%-26s %5ld\n", "next", depth(next));
+    printf("%-26s %5ld\n", "read_wkb, of 16 levels", deepest_read_wkb());
     printf("%-26s %5ld\n", "box, of 16 levels", deepest_box());
     printf("%-26s %5ld", "read, of 16 levels", deepest_read(&type));
     printf("  (type %d at the bottom)\n", type);

@@ -2,8 +2,8 @@
  * Bintolage: the feature store of a drainage plough's terminal.
  *
  * Events go in, a tree of geometry records comes out, and the tree reads back as events. Property values go in as typed
- * numbers or texts, and property bytes read back as values. Every function behind these calls is proved to do what its
- * contract says on every input.
+ * numbers or texts, and property bytes read back as values. Well-known binary becomes events. Every function behind these
+ * calls is proved to do what its contract says on every input.
  *
  *     cc program.c libbintolage.a
  *
@@ -65,6 +65,15 @@
  * may be lent at another address, or longer, at each call; lent shorter than what is used, a call answers 12.
  *
  *
+ * A COUNTY MAP'S WELL-KNOWN BINARY
+ *
+ *     bintolage_read_wkb   the bytes of a geometry become events in a log
+ *     bintolage_events     which are given to the writer as they stand there
+ *
+ * A county map has the geometry of each feature as well-known binary (WKB). What is read of it is the events that a program
+ * would otherwise make itself; the feature then goes on as above.
+ *
+ *
  * SEVERAL FEATURES IN ONE LOG
  *
  * Every event has the number of its feature. The caller chooses it, and any number will do, 0 too. A reading is given a
@@ -109,20 +118,26 @@ extern "C" {
                                          `place` says where */
 #define BINTOLAGE_PAST_LIST        7  /* read: a coordinate, or a z, m, t or tm value, lies past its list */
 #define BINTOLAGE_BAD_END          8  /* read: an end that is 2^31 or larger, or less than the end before it */
-#define BINTOLAGE_LOG_FULL         9  /* read, read_properties: the log has no room for the next record */
+#define BINTOLAGE_LOG_FULL         9  /* read, read_wkb, read_properties: the log has no room for the next record */
 #define BINTOLAGE_BAD_RECORD      10  /* read, box: a bad geometry record or table ("Geometry record", below) */
 #define BINTOLAGE_MALFORMED       11  /* event: no well-formed event record; property: no such type, a Bool above 1, or
                                          bits beyond the type's width */
 #define BINTOLAGE_NO_ROOM         12  /* event, property, finish, next: no room in a pool, the table or the property
                                          buffer, or one is lent shorter than the state already uses */
-#define BINTOLAGE_TOO_DEEP        13  /* read, box: a part at level 17, the root or the box's own record being level 1 */
+#define BINTOLAGE_TOO_DEEP        13  /* read, box: a part at level 17, the root or the box's own record being level 1;
+                                         read_wkb: a geometry at level 17, the outermost being level 1 */
 #define BINTOLAGE_VALUE_CUT       14  /* read_properties: the bytes end within a value */
 #define BINTOLAGE_NOT_ITS_TURN    15  /* event, property, finish: a finished feature waits for next; next: none waits */
 #define BINTOLAGE_COLUMN_TOO_LARGE 16 /* property: a column above 65,535 */
 #define BINTOLAGE_OTHER_FEATURE   17  /* event: its feature's number is not the one that is held */
+#define BINTOLAGE_WKB_CUT         18  /* read_wkb: the bytes end before a field is whole */
+#define BINTOLAGE_WKB_UNKNOWN     19  /* read_wkb: an order mark that is neither 0 nor 1, or a type that may not stand
+                                         there */
+#define BINTOLAGE_WKB_LEFT_OVER   20  /* read_wkb: bytes behind the geometry */
 
 /* Where several refusals are due, the first of these is given: event 11, 15, 17, 5, 12; property 15, 16, 11, 6, 12;
- * finish and next 15, 12; read and box, on entering a geometry, 13, 10; read_properties, at each property, 2, 14, 6, 9. */
+ * finish and next 15, 12; read and box, on entering a geometry, 13, 10; read_properties, at each property, 2, 14, 6, 9;
+ * read_wkb, at each field, 18, 19, behind a geometry's type 13, and at the end 20. */
 
 /*
  * USABLE ROOM
@@ -134,8 +149,8 @@ extern "C" {
 #define BINTOLAGE_POOL_WORDS      65536  /* words in each other pool */
 #define BINTOLAGE_LOG_RECORDS   1048576  /* records in a log */
 #define BINTOLAGE_PROPERTY_BYTES  65536  /* bytes in a property buffer */
-#define BINTOLAGE_LEVELS             16  /* levels of geometries within geometries; the root, or a box's own record, is the
-                                            first */
+#define BINTOLAGE_LEVELS             16  /* levels of geometries within geometries; the root, a box's own record, or the
+                                            outermost geometry of well-known binary, is the first */
 
 #define BINTOLAGE_EVENT_BYTES        64
 #define BINTOLAGE_GEOMETRY_BYTES     64
@@ -358,6 +373,26 @@ uint8_t bintolage_read(
     uint8_t *log, size_t log_bytes,
     uint32_t *count);
 
+/*
+ * Reads well-known binary (OGC Simple Features 1.2.1, two-dimensional), as event records from the start of `log`, and says
+ * in `count` how many, refused or not. `feature` is the number that every record says. The types are 1 to 7, Point to
+ * GeometryCollection. Both byte orders are read, and each geometry by its own order mark, whatever that of the geometry
+ * around it. A Point is a begin, the pair 0 and an end, and the begin is said before the x is looked at; a MultiPoint's
+ * member is one pair with the member's idx. A LineString or a Polygon is tagged where it is outermost or in a collection,
+ * and untagged as a Multi's member. Coordinates are taken bit for bit.
+ *
+ * The fields are the order mark, the type, a count and each coordinate, of 1, 4, 4 and 8 bytes. At each field 18 stands
+ * first, and then 19: an order mark that is neither 0 nor 1, a type that is not 1 to 7, a member that is not of its Multi's
+ * single type. So the dialects that say z, m or a reference system in the type's number are refused with 19. A geometry
+ * inside another is one level deeper, the members of MultiPoint, MultiLineString and MultiPolygon too, and one at level 17
+ * is refused with 13 behind its type. With 20 the log has the whole geometry. Refused: 18, 19, 13, 9, 20.
+ */
+uint8_t bintolage_read_wkb(
+    const uint8_t *bytes, size_t bytes_count,
+    uint32_t feature,
+    uint8_t *log, size_t log_bytes,
+    uint32_t *count);
+
 /* No column's number: with it as `stop` bintolage_read_properties reads on to the end. */
 #define BINTOLAGE_NO_STOP         65536
 
@@ -414,6 +449,7 @@ uint8_t bintolage_box(
  *     a feature written          bintolage_start, then bintolage_give, bintolage_give_many, bintolage_give_number,
  *                                bintolage_give_text, bintolage_finish_feature, bintolage_next_feature
  *     a feature read             bintolage_read_feature, bintolage_read_values, bintolage_read_box
+ *     well-known binary read     bintolage_read_wkb_events
  *     a text refused on reading  bintolage_refused_text
  *     the feature in hand        bintolage_has_feature, bintolage_feature, bintolage_parts, bintolage_property_bytes
  *     an answer in words         bintolage_refusal
@@ -768,6 +804,22 @@ static inline uint8_t bintolage_read_feature(
 }
 
 /*
+ * Reads well-known binary as events, into the `log_records` records of `log`, and says in *count how many, refused or not;
+ * the records go to bintolage_give_many. Refused: 18, 19, 13, 9, 20.
+ */
+static inline uint8_t bintolage_read_wkb_events(
+    const uint8_t *wkb, size_t wkb_bytes, uint32_t feature,
+    bintolage_event_record *log, size_t log_records,
+    uint32_t *count)
+{
+    uint64_t nothing = 0;
+    const uint8_t *bytes = wkb ? wkb : (const uint8_t *)&nothing;
+    uint8_t *records = log ? (uint8_t *)log : (uint8_t *)&nothing;
+    return bintolage_read_wkb(
+        bytes, wkb ? wkb_bytes : 0, feature, records, log ? log_records * sizeof *log : 0, count);
+}
+
+/*
  * Reads the properties of the feature in hand as values, into the `log_records` records of `log`, and says in *count how
  * many, refused or not. `columns` has the type of each column. *place says where a text that is refused with 6 went bad,
  * counted from the text's own first byte, and is 0 with every other answer; `place` is null where that is not wanted.
@@ -920,6 +972,9 @@ static inline const char *bintolage_refusal(uint8_t number)
     case BINTOLAGE_NOT_ITS_TURN: return "not its turn";
     case BINTOLAGE_COLUMN_TOO_LARGE: return "column number above 65,535";
     case BINTOLAGE_OTHER_FEATURE: return "an event of another feature";
+    case BINTOLAGE_WKB_CUT: return "well-known binary that ends before a field is whole";
+    case BINTOLAGE_WKB_UNKNOWN: return "an order mark that is neither 0 nor 1, or a type that may not stand there";
+    case BINTOLAGE_WKB_LEFT_OVER: return "bytes behind the geometry";
     default: return "a number that no call answers";
     }
 }

@@ -76,6 +76,19 @@ pub fn read(tree: Tree, declared: u8, flags: u8, feature: u32, log: &mut [u8], c
     with_lists!(link::bintolage_read(; tree.as_ptr; declared, flags, feature, log.as_mut_ptr(), log.len(), count))
 }
 
+#[inline]
+pub fn read_wkb(bytes: &[u8], feature: u32, log: &mut [u8], count: &mut u32) -> u8 {
+    // SAFETY: every pointer and count is a slice's, or a reference's; what is written is borrowed by `&mut`.
+    unsafe {
+        link::bintolage_read_wkb(
+            bytes.as_ptr(), bytes.len(),
+            feature,
+            log.as_mut_ptr(), log.len(),
+            count,
+        )
+    }
+}
+
 /// Without columns nothing is read.
 #[inline]
 pub fn read_properties(

@@ -73,6 +73,13 @@ extern "C" {
         count: *mut u32,
     ) -> u8;
 
+    pub fn bintolage_read_wkb(
+        bytes: *const u8, bytes_count: usize,
+        feature: u32,
+        log: *mut u8, log_bytes: usize,
+        count: *mut u32,
+    ) -> u8;
+
     pub fn bintolage_read_properties(
         bytes: *const u8, bytes_count: usize,
         has_columns: u8,

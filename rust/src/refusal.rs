@@ -30,7 +30,7 @@ pub enum Refusal {
     Malformed,
     /// 12: no room in a pool, the table or the property buffer, or one is lent shorter than the state uses.
     NoRoom,
-    /// 13: a part at level 17.
+    /// 13: a part at level 17, or a geometry of well-known binary there.
     TooDeep,
     /// 14: property bytes end within a value.
     ValueCut,
@@ -40,6 +40,12 @@ pub enum Refusal {
     ColumnTooLarge,
     /// 17: the number of an event's feature is not the one that is held.
     OtherFeature,
+    /// 18: well-known binary ends before a field is whole.
+    WkbCut,
+    /// 19: an order mark that is neither 0 nor 1, or a type that may not stand there.
+    WkbUnknown,
+    /// 20: bytes behind the geometry.
+    WkbLeftOver,
 }
 
 /// The number and words of a refusal, by its name alone, whatever else it has: NotUtf8 has its place. The rows are names and no
@@ -83,6 +89,9 @@ impl Refusal {
             (Refusal::NotItsTurn, 15, "not its turn"),
             (Refusal::ColumnTooLarge, 16, "column number above 65,535"),
             (Refusal::OtherFeature, 17, "an event of another feature"),
+            (Refusal::WkbCut, 18, "well-known binary that ends before a field is whole"),
+            (Refusal::WkbUnknown, 19, "an order mark that is neither 0 nor 1, or a type that may not stand there"),
+            (Refusal::WkbLeftOver, 20, "bytes behind the geometry"),
         )
     }
 
@@ -116,6 +125,9 @@ impl Refusal {
             15 => Err(Refusal::NotItsTurn),
             16 => Err(Refusal::ColumnTooLarge),
             17 => Err(Refusal::OtherFeature),
+            18 => Err(Refusal::WkbCut),
+            19 => Err(Refusal::WkbUnknown),
+            20 => Err(Refusal::WkbLeftOver),
             _ => unreachable!("no call answers {number} without a place"),
         }
     }

@@ -5,7 +5,8 @@ pub const XY_WORDS: usize = 131_072;
 pub const POOL_WORDS: usize = 65_536;
 pub const LOG_RECORDS: usize = 1_048_576;
 pub const PROPERTY_BYTES: usize = 65_536;
-/// Levels of geometries within geometries; the root, or a box's own record, is the first.
+/// Levels of geometries within geometries; the root, a box's own record, or the outermost geometry of well-known binary, is
+/// the first.
 pub const LEVELS: usize = 16;
 
 /// How many words a writer's state has.

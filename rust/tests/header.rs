@@ -8,7 +8,8 @@ fn text_of(file: &str) -> String {
     fs::read_to_string(&path).unwrap_or_else(|error| panic!("{path}: {error}"))
 }
 
-const CALLS: [&str; 9] = ["start", "event", "events", "property", "finish", "next", "read", "read_properties", "box"];
+const CALLS: [&str; 10] =
+    ["start", "event", "events", "property", "finish", "next", "read", "read_wkb", "read_properties", "box"];
 
 /// What stands between the brackets of the call's first declaration, at its commas.
 fn arguments(text: &str, declared_by: &str, call: &str) -> Vec<String> {
@@ -49,7 +50,7 @@ fn a_call_has_the_same_arguments_everywhere() {
     }
 }
 
-const REFUSALS: [Refusal; 18] = [
+const REFUSALS: [Refusal; 21] = [
     Refusal::XyAbsent,
     Refusal::PartsAbsent,
     Refusal::ColumnUnknown,
@@ -68,6 +69,9 @@ const REFUSALS: [Refusal; 18] = [
     Refusal::NotItsTurn,
     Refusal::ColumnTooLarge,
     Refusal::OtherFeature,
+    Refusal::WkbCut,
+    Refusal::WkbUnknown,
+    Refusal::WkbLeftOver,
 ];
 
 /// The number of a name that the header defines.

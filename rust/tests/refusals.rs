@@ -1,6 +1,6 @@
 //! Each refusal, reached; and what a refusal leaves alone.
 mod common;
-use bintolage::{column_type, geometry_type, read_properties, Event, Refusal, State};
+use bintolage::{column_type, geometry_type, read_properties, read_wkb, Event, Refusal, State};
 use common::{framed, line, numbered, pairs, point_begin, polygon, Room, ENDS, FEATURE, PARTS, XY};
 
 fn read_of(kind: u8, lists: &[(usize, u32, u32)]) -> (Result<(), Refusal>, usize) {
@@ -161,6 +161,31 @@ fn other_feature() {
     assert_eq!(room.write(&mut state, &numbered(FEATURE + 1, &events[2..])), Err(Refusal::OtherFeature));
 }
 
+/// A point of which x and y are 0, in well-known binary.
+const POINT_WKB: [u8; 21] = [1, 1, 0, 0, 0, 0, 0, 0, 0, 0, 0, 0, 0, 0, 0, 0, 0, 0, 0, 0, 0];
+
+fn read_wkb_of(bytes: &[u8]) -> (Result<(), Refusal>, usize) {
+    let read = read_wkb(bytes, FEATURE, &mut [0; 3 * 64]);
+    (read.answer, read.count)
+}
+
+#[test]
+fn wkb_cut() {
+    assert_eq!(read_wkb_of(&POINT_WKB), (Ok(()), 3));
+    assert_eq!(read_wkb_of(&POINT_WKB[..20]), (Err(Refusal::WkbCut), 1));
+}
+
+#[test]
+fn wkb_unknown() {
+    assert_eq!(read_wkb_of(&[&[2], &POINT_WKB[1..]].concat()), (Err(Refusal::WkbUnknown), 0));
+    assert_eq!(read_wkb_of(&[1, 8, 0, 0, 0]), (Err(Refusal::WkbUnknown), 0));
+}
+
+#[test]
+fn wkb_left_over() {
+    assert_eq!(read_wkb_of(&[&POINT_WKB[..], &[0]].concat()), (Err(Refusal::WkbLeftOver), 3));
+}
+
 #[test]
 fn a_refused_event_changes_nothing() {
     let mut room = Room::of(2, 8);
@@ -177,6 +202,7 @@ fn words_and_numbers() {
     assert_eq!(Refusal::BadEnd.to_string(), "8: an end that is 2^31 or larger, or less than the end before it");
     assert_eq!(Refusal::ColumnTooLarge.to_string(), "16: column number above 65,535");
     assert_eq!(Refusal::OtherFeature.to_string(), "17: an event of another feature");
+    assert_eq!(Refusal::WkbLeftOver.to_string(), "20: bytes behind the geometry");
     assert_eq!(Refusal::NotUtf8 { at: 7 }.to_string(), "6: text is not UTF-8 at byte 7");
     assert_eq!((Refusal::PartsAbsent.number(), Refusal::ColumnUnknown.number()), (2, 2));
 }

@@ -16,6 +16,7 @@ ghost use Rattle.property_reader.specs.Reading.{reading, badIn, stopped as stop
 ghost use Rattle.log.specs.Values.{values};
 ghost use Rattle.property_writer.specs.Writing.{bytesAfter};
 ghost use Rattle.reader.specs.Reading.{readS};
+ghost use Rattle.wkb_reader.specs.Reading.{readingR};
 ghost use Rattle.record_box.specs.Boxed.{boxOf};
 ghost use Rattle.writing.specs.State.{memOf};
 ghost use Rattle.writing.specs.Calls.{started, eventCall, finishCall, nextCall};
@@ -200,6 +201,22 @@ pub extern "C" fn bintolage_read(
         feature,
         log,
     );
+    *count = read.count as u32;
+    read.number
+}
+
+// Well-known binary as events from the log's start, each under the feature's number, and how many. Refused: at each field 18, then 19; 13
+// behind a member's type; 9 at each record; 20 at the end.
+#[no_mangle]
+pub extern "C" fn bintolage_read_wkb(
+    bytes: &[u8],
+    feature: u32,
+    log: &mut [u8],
+    count: &mut u32,
+) -> u8
+    ensures { λ r. ⌜ Said (eventRecords feature) (readingR (now (bytes .entry))) (now (log .entry)) r (now (count .exit)) (now (log .exit)) ⌝ }
+{
+    let read = wkb_reader::read_wkb(bytes, feature, log);
     *count = read.count as u32;
     read.number
 }

@@ -12,6 +12,7 @@ use Rattle.log.specs.Log.{events}
 use Rattle.record_box.specs.declared.Boxed.{Boxed}
 use Rattle.record_box.specs.Boxed.{boxOf}
 use Rattle.reader.specs.Reading.{readS}
+use Rattle.wkb_reader.specs.Reading.{readingR}
 use Rattle.property_writer.specs.Writing.{bytesAfter}
 use Rattle.property_value.specs.Value.{placed}
 use Rattle.property_reader.specs.Reading.{reading, badIn, stopped}
@@ -99,6 +100,11 @@ module _ (number number′ count count′ : ℕ) (log log′ : List ℕ) where
       → Said (events feature) (readS F (recordWith table P) declared) L number count log → Said (events feature) (readS F (recordWith table P) declared) L number′ count′ log′
       → (number ≡ number′) × (count ≡ count′) × (log ≡ log′)
   read-once F feature table P declared L = said-once (events feature) (readS F (recordWith table P) declared) L number number′ count count′ log log′
+
+  pub read-wkb-once : (feature : ℕ) (bytes L : List ℕ)
+      → Said (events feature) (readingR bytes) L number count log → Said (events feature) (readingR bytes) L number′ count′ log′
+      → (number ≡ number′) × (count ≡ count′) × (log ≡ log′)
+  read-wkb-once feature bytes L = said-once (events feature) (readingR bytes) L number number′ count count′ log log′
 
   pub read-properties-once : (bytes : List ℕ) (has-columns : Bool) (columns : List ℕ) (stop : ℕ) (L : List ℕ) (at at′ : Bool) (place place′ : ℕ)
       → run values (reading bytes has-columns columns stop) L 0 ≡ out number count log → at ≡ stopped stop (reading bytes has-columns columns stop) number → place ≡ placed number (badIn bytes has-columns columns stop)

@@ -22,7 +22,10 @@ a part at level 17|\
 a property value cut short|\
 not its turn|\
 column number above 65,535|\
-an event of another feature",
+an event of another feature|\
+well-known binary that ends before a field is whole|\
+an order mark that is neither 0 nor 1, or a type that may not stand there|\
+bytes behind the geometry",
         number,
     );
 }

@@ -44,3 +44,12 @@ pub const COLUMN_TOO_LARGE: u8 = 16;
 
 // An event of another feature than the one in hand.
 pub const OTHER_FEATURE: u8 = 17;
+
+// Well-known binary that ends before a field is whole.
+pub const WKB_CUT: u8 = 18;
+
+// An order mark that is neither 0 nor 1, or a type that may not stand there.
+pub const WKB_UNKNOWN: u8 = 19;
+
+// Bytes behind the geometry.
+pub const WKB_LEFT_OVER: u8 = 20;

@@ -1,0 +1,1 @@
+// Which events may follow which: frames of type, size and next index, and a machine that takes one event at a time.

@@ -1,0 +1,9 @@
+pub mod Fields
+pub mod Parts
+pub mod Says
+pub mod Forward
+pub mod Finds
+pub mod Backward
+pub mod Exactly
+pub mod Deep
+pub mod Examples

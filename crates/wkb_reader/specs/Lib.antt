@@ -1,0 +1,4 @@
+pub mod Reading
+pub mod Onward
+pub mod Parts
+pub mod Heads

@@ -1,0 +1,1 @@
+// A list of events, as well-known binary.
