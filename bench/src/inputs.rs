@@ -4,8 +4,13 @@ use original::events::{put_feature, Log};
 use original::tree::{put_list, Store, MOST_LEVELS};
 use std::ops::Range;
 
+/// The bytes of an event.
+pub const EVENT: usize = 64;
 pub const LINE_STRING: u8 = 2;
+pub const POLYGON: u8 = 3;
 pub const MULTI_POLYGON: u8 = 6;
+/// A pair, of an event's kinds.
+pub const XY: u8 = 64;
 pub const INT: u8 = 5;
 pub const STRING: u8 = 11;
 /// z and m, of an event's present bits.
@@ -56,22 +61,32 @@ pub fn line_with_z_and_m(pairs: usize) -> Feature {
     })
 }
 
-fn ring(log: &mut Log, first: usize, pairs: usize) -> geozero::error::Result<()> {
+/// `number` says of each pair at which place it is.
+fn ring(log: &mut Log, pairs: usize, number: impl Fn(usize) -> usize) -> geozero::error::Result<()> {
     log.linestring_begin(false, pairs, 0)?;
     for i in 0..pairs {
-        let (x, y) = place(first + i);
+        let (x, y) = place(number(i));
         log.xy(x, y, i)?;
     }
     log.linestring_end(false, 0)
 }
 
-/// Polygons of one ring each.
+/// Polygons of one ring each, no two pairs of which are at the same place.
 pub fn polygons(parts: usize, pairs: usize) -> Feature {
+    polygons_at(parts, pairs, |part, i| part * pairs + i)
+}
+
+/// Polygons of one ring each, which ends where it begins: GEOS reads no others.
+pub fn closed_polygons(parts: usize, pairs: usize) -> Feature {
+    polygons_at(parts, pairs, |part, i| part * pairs + i % (pairs - 1))
+}
+
+fn polygons_at(parts: usize, pairs: usize, number: impl Fn(usize, usize) -> usize) -> Feature {
     feature(MULTI_POLYGON, 0, |log| {
         log.multipolygon_begin(parts, 0)?;
         for part in 0..parts {
             log.polygon_begin(false, 1, part)?;
-            ring(log, part * pairs, pairs)?;
+            ring(log, pairs, |i| number(part, i))?;
             log.polygon_end(false, part)?;
         }
         log.multipolygon_end(0)
@@ -83,10 +98,10 @@ pub fn polygon_and_open_ring(pairs: usize) -> Feature {
     feature(MULTI_POLYGON, 0, |log| {
         log.multipolygon_begin(2, 0)?;
         log.polygon_begin(false, 1, 0)?;
-        ring(log, 0, 4)?;
+        ring(log, 4, |i| i)?;
         log.polygon_end(false, 0)?;
         log.polygon_begin(false, 1, 1)?;
-        ring(log, 4, pairs)
+        ring(log, pairs, |i| 4 + i)
     })
 }
 

@@ -1,15 +1,19 @@
-//! The crate's own Rust beside the proved library: the same inputs, one process, the two in turn.
+//! The crate's own Rust, and GEOS, beside the proved library: the same inputs, one process, the two in turn.
 mod boxes;
+#[cfg_attr(not(geos), path = "no_geos.rs")]
+mod geos;
 mod inputs;
 mod port;
 mod rows;
 mod timing;
+mod wkb;
 
 use boxes::BoxTimes;
 use inputs::{all_layers_below, ever_deeper, next_layer, Shared};
-use inputs::{ints, line, line_with_z_and_m, open_rings_end, polygon_and_open_ring, polygons, strings};
+use inputs::{closed_polygons, ints, line, line_with_z_and_m, open_rings_end, polygon_and_open_ring, polygons, strings};
 use std::time::Duration;
 use timing::{Rounds, Times};
+use wkb::Order;
 
 const MOST_PAIRS: usize = 65536;
 const SIZES: [usize; 5] = [256, 1024, 4096, 16384, MOST_PAIRS];
@@ -23,18 +27,27 @@ const SHARINGS: [Sharing; 3] = [
     ("16 layers, parts to the table's end", all_layers_below),
     ("2 layers, met ever deeper", ever_deeper),
 ];
+const ORDERS: [(&str, Order); 2] = [("little-endian", Order::Lowest), ("big-endian", Order::Highest)];
 
 fn microseconds(time: Duration) -> f64 {
     time.as_secs_f64() * 1e6
 }
 
 fn head(title: &str) {
-    println!("{title:<46} {:>10} {:>10} {:>7} {:>10} {:>7}", "Rust us", "ours us", "ours/R", "copy us", "ours/c");
+    head_beside(title, "Rust us", "ours/R");
+}
+
+fn head_beside(title: &str, peer: &str, ratio: &str) {
+    println!("{title:<46} {peer:>10} {:>10} {ratio:>7} {:>10} {:>7}", "ours us", "copy us", "ours/c");
 }
 
 fn row(name: &str, times: Times) {
-    let [rust, port, copy] = [times.rust, times.port, times.copy].map(microseconds);
-    println!("{name:<46} {rust:>10.2} {port:>10.2} {:>7.2} {copy:>10.2} {:>7.2}", port / rust, port / copy);
+    let [port, copy] = [times.port, times.copy].map(microseconds);
+    let [peer, ratio] = match times.peer.map(microseconds) {
+        Some(peer) => [peer, port / peer].map(|number| format!("{number:.2}")),
+        None => ["missing".into(), String::new()],
+    };
+    println!("{name:<46} {peer:>10} {port:>10.2} {ratio:>7} {copy:>10.2} {:>7.2}", port / copy);
 }
 
 fn boxes(rounds: Rounds) {
@@ -55,6 +68,19 @@ fn shared_parts(rounds: Rounds) {
             let places = shared.places;
             let ours = microseconds(boxes::of_shared(rounds, shared));
             println!("{:<46} {places:>10} {ours:>10.2} {:>8.2}", format!("{name}, {width} wide"), ours * 1e3 / places as f64);
+        }
+    }
+}
+
+fn well_known_binary(rounds: Rounds) {
+    head_beside("well-known binary, to 64-byte events", "GEOS us", "ours/G");
+    let features = [
+        (format!("LineString, {MOST_PAIRS} pairs"), line(MOST_PAIRS)),
+        ("MultiPolygon, 4000 of 16 pairs".into(), closed_polygons(4000, 16)),
+    ];
+    for (name, feature) in &features {
+        for (order_name, order) in ORDERS {
+            row(&format!("{name}, {order_name}"), rows::read_wkb(rounds, feature, order));
         }
     }
 }
@@ -102,4 +128,5 @@ fn main() {
 
     boxes(rounds);
     shared_parts(rounds);
+    well_known_binary(rounds);
 }

@@ -99,6 +99,14 @@ impl Port {
     }
 }
 
+/// How many records of events well-known binary gives, read under a feature's number.
+pub fn read_wkb(bytes: &[u8], feature: u32, log: &mut [u8]) -> usize {
+    let mut count = 0;
+    let number = bare::read_wkb(bytes, feature, log, &mut count);
+    assert_eq!(number, 0, "well-known binary is read");
+    count as usize
+}
+
 /// How many value records there are.
 pub fn read_properties(bytes: &[u8], columns: &[u8], log: &mut [u8]) -> usize {
     const NO_STOP: u32 = 65536;

@@ -1,7 +1,9 @@
 //! What is timed. Each row first sees that both sides give the same.
-use crate::inputs::{Feature, Values, FEATURE};
+use crate::geos;
+use crate::inputs::{Feature, Values, EVENT, FEATURE};
 use crate::port::{self, Port};
-use crate::timing::{least, timed, Rounds, Times};
+use crate::timing::{least, least_beside, timed, Rounds, Times};
+use crate::wkb::{self, Order};
 use geozero::{ColumnValue, FeatureProperties, PropertyProcessor};
 use original::events::{give, put_feature, Log};
 use original::feature_writer::{peek, FeatureWriter};
@@ -11,7 +13,6 @@ use original::properties;
 use original::tree::{geometry_of, Store};
 use std::hint::black_box;
 
-const EVENT: usize = 64;
 const VALUE: usize = 16;
 
 fn rust_writer(declared: u8) -> FeatureWriter<'static> {
@@ -100,6 +101,20 @@ pub fn read(rounds: Rounds, feature: &Feature) -> Times {
         })
     };
     least(rounds, feature.events.len(), rust, port)
+}
+
+/// Well-known binary to events in a log, beside GEOS, which makes a geometry of the same bytes.
+pub fn read_wkb(rounds: Rounds, feature: &Feature, order: Order) -> Times {
+    let bytes = wkb::of(&feature.events, order);
+    let mut log = vec![255; feature.events.len()];
+    port::read_wkb(&bytes, FEATURE, &mut log);
+    assert!(log == feature.events, "the events are those that the bytes were made from");
+    let port = || {
+        timed(|| {
+            black_box(port::read_wkb(black_box(&bytes), FEATURE, black_box(&mut log)));
+        })
+    };
+    least_beside(rounds, feature.events.len(), geos::reading(&bytes), port)
 }
 
 /// Finish and next, where `events` leave a list of so many bytes pending. `rest` ends it, untimed, before the next round.

@@ -14,7 +14,8 @@ pub struct Rounds {
 }
 
 pub struct Times {
-    pub rust: Duration,
+    /// The crate's own Rust, or GEOS; none where that is not installed.
+    pub peer: Option<Duration>,
     pub port: Duration,
     pub copy: Duration,
 }
@@ -34,10 +35,25 @@ pub fn in_turn<const SIDES: usize>(rounds: Rounds, mut sides: [&mut dyn FnMut() 
 }
 
 /// The two sides, and a copy of so many bytes.
-pub fn least(rounds: Rounds, bytes: usize, mut rust: impl FnMut() -> Duration, mut port: impl FnMut() -> Duration) -> Times {
+pub fn least(rounds: Rounds, bytes: usize, rust: impl FnMut() -> Duration, port: impl FnMut() -> Duration) -> Times {
+    least_beside(rounds, bytes, Some(rust), port)
+}
+
+/// The same, where the other side may be missing.
+pub fn least_beside(
+    rounds: Rounds,
+    bytes: usize,
+    peer: Option<impl FnMut() -> Duration>,
+    mut port: impl FnMut() -> Duration,
+) -> Times {
     let from = vec![1u8; bytes];
     let mut to = vec![0u8; bytes];
     let mut copy = || timed(|| std::hint::black_box(&mut to[..]).copy_from_slice(std::hint::black_box(&from)));
-    let [rust, port, copy] = in_turn(rounds, [&mut rust, &mut port, &mut copy]);
-    Times { rust, port, copy }
+    if let Some(mut peer) = peer {
+        let [peer, port, copy] = in_turn(rounds, [&mut peer, &mut port, &mut copy]);
+        Times { peer: Some(peer), port, copy }
+    } else {
+        let [port, copy] = in_turn(rounds, [&mut port, &mut copy]);
+        Times { peer: None, port, copy }
+    }
 }

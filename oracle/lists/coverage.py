@@ -10,7 +10,7 @@ import collections, struct, sys
 
 import differences, features
 from boxes import ARC, SLIPS, Lent, Walk
-from cases import BOX, CUT, EVENT, EVENTS, FINISH, HEARD, LARGE, NEXT, PROPERTY, READ, RECORD, SAID, START, TREE, WHOLE, WRITTEN, frames
+from cases import BOX, CUT, EVENT, EVENTS, FINISH, HEARD, LARGE, NEXT, PROPERTY, READ, RECORD, SAID, START, TREE, WHOLE, WKB, WRITTEN, frames
 from client import feature_of, store, under
 from texts import bad_place
 
@@ -108,12 +108,14 @@ class Lists:
         self.trees = list(trees(of(TREE)))
         self.read, self.written = properties(of(READ, WRITTEN))
         self.boxes = list(boxes(of(BOX)))
+        self.wkb = [numbers(case[:24]) for case in of(WKB)]
         self.store = [Stored(*numbers(case[:8]), case[12 if case[0] == HEARD else 8:]) for case in of(HEARD, SAID, RECORD, BOX)]
         self.calls = [call for row in self.rows for call in row]
 
     def refusals(self):
         given = {call.number for call in self.calls} | {number for tree in self.trees for _, _, number, _ in tree.readings}
-        return given | {case.number for case in self.read + self.written} | {case.number for case in self.store}
+        given |= {case.number for case in self.read + self.written} | {case.number for case in self.store}
+        return given | {number for _, number, *_ in self.wkb}
 
     def types_written(self):
         return {call.event[0] % 32 for call in self.calls if call.what == EVENT and call.number == 0 and call.event[0] < 64}
@@ -272,7 +274,7 @@ def main():
         missing.extend(f"{what} {one}" for one in absent)
         print(f"{what}: {len(wanted) - len(absent)} of {len(wanted)}")
 
-    show("refusal", range(18), lists.refusals())
+    show("refusal", range(21), lists.refusals())
     show("number of many events in a call", (0, 5, 11, 12, 15, 17), [call.number for call in lists.calls if call.what == EVENTS])
     show("turn of a call with no event", (0, 1), [call.state[5] for call in lists.calls if call.what == EVENTS and not call.event])
     show("number of a property among calls", (0, 6, 11, 12, 15, 16), [call.number for call in lists.calls if call.what == PROPERTY])
@@ -291,6 +293,8 @@ def main():
     show("sort of a reading under a feature number", [(sort, n) for sort in (WHOLE, CUT, LARGE) for n in (0, 1, TOP)], lists.numbers_read())
     for what, wanted, found in features.shown(lists.rows):
         show(what, wanted, found)
+    show("number of well-known binary", (0, 9, 13, 18, 19, 20), [number for _, number, *_ in lists.wkb])
+    show("feature number of well-known binary", FEATURES, [feature for _, _, count, _, feature, _ in lists.wkb if count])
     show("number of a box", (0, 10, 13), [box.number for box in lists.boxes])
     show("slip of a box", [slip.__name__ for slip in SLIPS], [slip.__name__ for slip in SLIPS if lists.tells(slip)])
     show("entry of docs/DIFFERENCES.md", told, [entry for entry in told if is_covered(entry, lists)])

@@ -1,4 +1,4 @@
-// Runs the store, property bytes and the geometry reader on the cases of standard input, and counts what differs.
+// Runs the store, property bytes, the geometry reader and that of well-known binary on the cases of standard input, and counts what differs.
 mod blank;
 
 use replay::Next;
@@ -7,7 +7,7 @@ use replay::first;
 use replay::number;
 use replay::tally;
 
-// The sorts of cases. A tree has readings of the last four, each a case of its own.
+// The sorts of cases. A tree has readings of the four from WHOLE on, each a case of its own.
 const HEARD: usize = 0;
 
 const SAID: usize = 1;
@@ -28,6 +28,8 @@ const BAD: usize = 8;
 
 const LARGE: usize = 9;
 
+const WKB: usize = 10;
+
 const TREE: usize = WHOLE;
 
 // What differs in a case that is no tree.
@@ -45,6 +47,7 @@ fn differences(
         BOX => store_cases::boxes::boxed(case, table, words, ends),
         READ => property_cases::read(case, memory),
         WRITTEN => property_cases::written(case, memory),
+        WKB => wkb_cases::read(case, memory),
         _ => replay::difference::CASE,
     }
 }
@@ -88,6 +91,7 @@ fn report(counted: &Tally) {
     report_store(counted);
     report_properties(counted);
     report_readings(counted);
+    tally::print_sort(counted, WKB, b"well-known binary read");
     tally::print_total(counted);
 }
 
