@@ -125,7 +125,7 @@ no-size kind h = rw (lt-leb kind 12 (omega arith), lt-leb kind 17 (omega arith))
 type-range : (n : ℕ) → isType n ≡ true → (1 ≤ n) × (n ≤ 7)
 type-range n h = let t = both (leb 1 n) (leb n 7) h in (leb-true 1 n (t .0), leb-true n 7 (t .1))
 
-number-numbered : (n : ℕ) → isType n ≡ true → number (numbered n) ≡ n
+pub number-numbered : (n : ℕ) → isType n ≡ true → number (numbered n) ≡ n
 number-numbered zero h = absurd (never h)
 number-numbered (suc zero) h = refl
 number-numbered (suc (suc zero)) h = refl

@@ -33,6 +33,51 @@ anyDepth = rulesOf (λ level. false)
 abbrev pub sixteen : Rules
 sixteen = rulesOf (λ level. leb 17 level)
 
+-- ---- the same rules among those that a use may choose
+-- which types may be empty: a Polygon, a MultiLineString and a MultiPolygon where the use says so, any other always
+abbrev pub emptyWhere : Bool → GeometryType → Bool
+emptyWhere empty Point = true
+emptyWhere empty LineString = true
+emptyWhere empty Polygon = empty
+emptyWhere empty MultiPoint = true
+emptyWhere empty MultiLineString = empty
+emptyWhere empty MultiPolygon = empty
+emptyWhere empty Collection = true
+
+-- whose members lie one level deeper: a MultiPoint's and a MultiLineString's where the use says so
+abbrev pub opensWhere : Bool → GeometryType → Bool
+opensWhere deeper Point = false
+opensWhere deeper LineString = false
+opensWhere deeper Polygon = false
+opensWhere deeper MultiPoint = deeper
+opensWhere deeper MultiLineString = deeper
+opensWhere deeper MultiPolygon = true
+opensWhere deeper Collection = true
+
+abbrev pub rulesFor : Bool → Bool → (ℕ → Bool) → Rules
+rulesFor empty deeper tooDeep = record { mayBeEmpty = emptyWhere empty; opens = opensWhere deeper; tooDeep = tooDeep }
+
+all-empty : (type : GeometryType) → emptyWhere true type ≡ true
+all-empty Point = refl
+all-empty LineString = refl
+all-empty Polygon = refl
+all-empty MultiPoint = refl
+all-empty MultiLineString = refl
+all-empty MultiPolygon = refl
+all-empty Collection = refl
+
+pub all-open : (type : GeometryType) → opensWhere true type ≡ ofGeometries type
+all-open Point = refl
+all-open LineString = refl
+all-open Polygon = refl
+all-open MultiPoint = refl
+all-open MultiLineString = refl
+all-open MultiPolygon = refl
+all-open Collection = refl
+
+pub rules-of : (tooDeep : ℕ → Bool) → rulesFor true true tooDeep ≡ rulesOf tooDeep
+rules-of tooDeep = λ i. record { mayBeEmpty = λ type. all-empty type i; opens = λ type. all-open type i; tooDeep = tooDeep }
+
 -- ---- the rule of sixteen levels is the rule of any depth, and levels that are few enough
 simple-some : (s : Simple) → 1 ≤ simpleLevels s
 simple-some (point c) = omega arith

@@ -14,4 +14,5 @@ pub mod FlatEvents
 pub mod FlatLaws
 pub mod Levels
 pub mod Sound
+pub mod Taking
 pub mod Examples

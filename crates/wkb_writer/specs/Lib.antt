@@ -4,3 +4,16 @@ pub mod Writing
 pub mod Sized
 pub mod Nested
 pub mod Listed
+pub mod Course
+pub mod Told
+pub mod Walk
+pub mod Rows
+pub mod Passing
+pub mod Searched
+pub mod Along
+pub mod Steps
+pub mod Rising
+pub mod Answers
+pub mod Put
+pub mod PutEvent
+pub mod PutLeft

@@ -147,7 +147,7 @@ pair-bound : (points : Bool) (x y : ℕ) → length (cond points (headBytes 1 ++
 pair-bound true x y = omega arith
 pair-bound false x y = omega arith
 
-event-bound : (k : Around) (e : Event) → length (bytesOf k e) ≤ 21
+pub event-bound : (k : Around) (e : Event) → length (bytesOf k e) ≤ 21
 event-bound k (begin type tagged size idx) = begin-bound k type tagged size
 event-bound k (end type tagged idx) = omega arith
 event-bound k (pair x y idx) = pair-bound (k .points) x y
