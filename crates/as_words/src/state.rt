@@ -1,6 +1,6 @@
 // A writer's state as words, so that a caller in another language can keep it.
 ghost use Rattle.std.specs.Prelude.{◌≡◌, ◌<◌};
-ghost use Rattle.as_words.specs.Words.{byte_of, typingOf, featureBy, pendingOf, state_of, isNumbered, number_of, mark, head_of, wordsOf, wordsAfter, wordsAfterAll};
+ghost use Rattle.as_words.specs.Words.{byte_of, typing_of, feature_by, pending_of, state_of, is_numbered, number_of, mark, head_of, words_of, words_after, words_after_all};
 
 use asking::typing::Typing;
 use kinds::event::bit_set;
@@ -46,7 +46,7 @@ fn byte_of(word: u32, unit: u32) -> u8
 }
 
 fn typing_of(head: u32) -> Typing
-    ensures { result ≡ typingOf head }
+    ensures { result ≡ typing_of head }
 {
     let marks = byte_of(head, MARKS);
     Typing {
@@ -66,7 +66,7 @@ pub fn declared_of(words: &StateWords) -> u8
 }
 
 fn feature_by(numbered: bool, number: u32) -> Feature
-    ensures { result ≡ featureBy numbered number }
+    ensures { result ≡ feature_by numbered number }
 {
     if numbered {
         Feature::Numbered(number)
@@ -76,7 +76,7 @@ fn feature_by(numbered: bool, number: u32) -> Feature
 }
 
 fn pending_of(words: StateWords) -> Pending
-    ensures { result ≡ pendingOf words }
+    ensures { result ≡ pending_of words }
 {
     Pending {
         xy: Words {
@@ -131,7 +131,7 @@ fn mark(on: bool, bit: u8) -> u32
 }
 
 fn is_numbered(feature: Feature) -> bool
-    ensures { result ≡ isNumbered feature }
+    ensures { result ≡ is_numbered feature }
 {
     match feature {
         Feature::Open => false,
@@ -170,7 +170,7 @@ fn head_of(typing: Typing, waiting: bool, numbered: bool) -> u32
 }
 
 pub fn words_of(s: State) -> StateWords
-    ensures { result ≡ wordsOf s }
+    ensures { result ≡ words_of s }
 {
     let feature = s.feature;
     [
@@ -196,7 +196,7 @@ pub fn words_of(s: State) -> StateWords
 // Keeps the state that a call handed back, and gives its number. A refusal leaves the words as they were.
 pub fn keep(words: &mut StateWords, wrote: Wrote) -> u8
     ensures value { result ≡ wrote.number }
-    ensures words_after { words.new ≡ wordsAfter words.old wrote }
+    ensures words_after { words.new ≡ words_after words.old wrote }
 {
     if wrote.number == refusal::DONE {
         let after = words_of(wrote.state);
@@ -210,7 +210,7 @@ pub fn keep(words: &mut StateWords, wrote: Wrote) -> u8
 pub fn keep_all(words: &mut StateWords, count: &mut usize, took: Took) -> u8
     ensures value { result ≡ took.number }
     ensures count_after { count.new ≡ took.taken }
-    ensures words_after { words.new ≡ wordsAfterAll words.old took }
+    ensures words_after { words.new ≡ words_after_all words.old took }
 {
     *count = took.taken;
     if took.taken != 0 {

@@ -1,8 +1,8 @@
 // What an event asks for.
 ghost use Rattle.std.specs.Prelude.{◌≡◌, true, false, ◌||◌, ◌<◌};
 ghost use Rattle.asking.specs.declared.set_type.Typed.TheVariants.{Set, Mixed};
-ghost use Rattle.asking.specs.SetType.{withMode};
-ghost use Rattle.asking.specs.Ask.{noWords, endIf, pairWith, ask, calmed, inCollection, begun, pushesEnd, collects, askOf};
+ghost use Rattle.asking.specs.SetType.{with_mode};
+ghost use Rattle.asking.specs.Ask.{no_words, end_if, pair_with, ask, calmed, in_collection, begun, pushes_end, collects, ask_of};
 
 use crate::set_type::{Typed, set_type};
 use crate::typing::Typing;
@@ -46,7 +46,7 @@ pub fn collects(typing: Typing) -> bool
 }
 
 fn pushes_end(typing: Typing, tagged: bool) -> bool
-    ensures { result ≡ pushesEnd typing tagged }
+    ensures { result ≡ pushes_end typing tagged }
 {
     !tagged | (typing.mode == Typing::FORCE_MULTI)
 }
@@ -63,7 +63,7 @@ fn calmed(typing: Typing, tagged: bool) -> Typing
 }
 
 fn in_collection(typed: Typed) -> Typed
-    ensures { result ≡ inCollection typed }
+    ensures { result ≡ in_collection typed }
 {
     match typed {
         Typed::Mixed => Typed::Mixed,
@@ -89,7 +89,7 @@ fn begun(typing: Typing, e: Event) -> Typed
 
 fn begin(typing: Typing, e: Event) -> Ask
     requires { e.kind < 32 }
-    ensures { result ≡ ask (begun typing e) noWords false }
+    ensures { result ≡ ask (begun typing e) no_words false }
 {
     let typed = begun(typing, e);
     Ask {
@@ -101,7 +101,7 @@ fn begin(typing: Typing, e: Event) -> Ask
 
 // A pair, and the values that are present: none of kind 64.
 pub fn pair_with(present: u8) -> Added
-    ensures { result ≡ pairWith present }
+    ensures { result ≡ pair_with present }
 {
     Added {
         xy: true,
@@ -114,7 +114,7 @@ pub fn pair_with(present: u8) -> Added
 }
 
 fn point_end(typing: Typing) -> Ask
-    ensures { result ≡ ask (Set typing) noWords (collects typing) }
+    ensures { result ≡ ask (Set typing) no_words (collects typing) }
 {
     let typed = Typed::Set(typing);
     Ask {
@@ -125,7 +125,7 @@ fn point_end(typing: Typing) -> Ask
 }
 
 fn linestring_end(typing: Typing, tagged: bool) -> Ask
-    ensures { result ≡ ask (Set (calmed typing tagged)) (endIf (pushesEnd typing tagged)) (collects typing) }
+    ensures { result ≡ ask (Set (calmed typing tagged)) (end_if (pushes_end typing tagged)) (collects typing) }
 {
     let typed = Typed::Set(calmed(typing, tagged));
     let added = Added {
@@ -141,7 +141,7 @@ fn linestring_end(typing: Typing, tagged: bool) -> Ask
 }
 
 fn polygon_end(typing: Typing, tagged: bool) -> Ask
-    ensures { result ≡ ask (Set (calmed typing tagged)) noWords (pushesEnd typing tagged || collects typing) }
+    ensures { result ≡ ask (Set (calmed typing tagged)) no_words (pushes_end typing tagged || collects typing) }
 {
     let typed = Typed::Set(calmed(typing, tagged));
     Ask {
@@ -152,7 +152,7 @@ fn polygon_end(typing: Typing, tagged: bool) -> Ask
 }
 
 fn geometrycollection_end(typing: Typing) -> Ask
-    ensures { result ≡ ask (Set (withMode typing 0)) noWords false }
+    ensures { result ≡ ask (Set (with_mode typing 0)) no_words false }
 {
     let typed = Typed::Set(typing.with_mode(Typing::NORMAL));
     Ask {
@@ -164,7 +164,7 @@ fn geometrycollection_end(typing: Typing) -> Ask
 
 // The ends that FeatureWriter does not override.
 fn nothing(typing: Typing) -> Ask
-    ensures { result ≡ ask (Set typing) noWords false }
+    ensures { result ≡ ask (Set typing) no_words false }
 {
     let typed = Typed::Set(typing);
     Ask {
@@ -177,7 +177,7 @@ fn nothing(typing: Typing) -> Ask
 // What a begin or an end asks for.
 pub fn ask_of(typing: Typing, e: Event) -> Ask
     requires { e.kind < 64 }
-    ensures { result ≡ askOf typing e }
+    ensures { result ≡ ask_of typing e }
 {
     let kind = e.kind;
     if kind < Event::END {

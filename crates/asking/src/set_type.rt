@@ -1,6 +1,6 @@
 // The typing after a geometry's begin, as the Rust's set_type rules it.
 ghost use Rattle.std.specs.Prelude.{◌≡◌, ◌<◌};
-ghost use Rattle.asking.specs.SetType.{promoted, detected, detectedOr, unknownType, collected, lifts, setType};
+ghost use Rattle.asking.specs.SetType.{promoted, detected, detected_or, unknown_type, collected, lifts, set_type};
 
 use crate::typing::Typing;
 use kinds::geometry_type;
@@ -35,7 +35,7 @@ fn detected(typing: Typing, kind: u8) -> Typing
 }
 
 fn detected_or(typing: Typing, kind: u8) -> Typing
-    ensures { result ≡ detectedOr typing kind }
+    ensures { result ≡ detected_or typing kind }
 {
     if typing.detect {
         detected(typing, kind)
@@ -46,7 +46,7 @@ fn detected_or(typing: Typing, kind: u8) -> Typing
 
 fn unknown_type(typing: Typing, kind: u8) -> Typing
     requires { kind < 32 }
-    ensures { result ≡ unknownType typing kind }
+    ensures { result ≡ unknown_type typing kind }
 {
     if promoted(typing, kind) {
         detected_or(typing.with_mode(Typing::FORCE_MULTI), kind + TO_MULTI)
@@ -78,7 +78,7 @@ fn lifts(typing: Typing, kind: u8) -> bool
 
 pub fn set_type(typing: Typing, kind: u8) -> Typed
     requires { kind < 32 }
-    ensures { result ≡ setType typing kind }
+    ensures { result ≡ set_type typing kind }
 {
     if kind == typing.declared {
         return Typed::Set(typing);

@@ -1,6 +1,6 @@
 // What set_type looks at, and the modes.
 ghost use Rattle.std.specs.Prelude.{◌≡◌};
-ghost use Rattle.asking.specs.SetType.{withDeclared, withCurrent, withMode};
+ghost use Rattle.asking.specs.SetType.{with_declared, with_current, with_mode};
 
 #[derive(Drop)]
 pub struct Typing {
@@ -20,7 +20,7 @@ impl Typing {
     pub const FORCE_MULTI: u8 = 2;
 
     pub fn with_declared(self, declared: u8) -> Typing
-        ensures { result ≡ withDeclared self declared }
+        ensures { result ≡ with_declared self declared }
     {
         let mut typing = self;
         typing.declared = declared;
@@ -28,7 +28,7 @@ impl Typing {
     }
 
     pub fn with_current(self, current: u8) -> Typing
-        ensures { result ≡ withCurrent self current }
+        ensures { result ≡ with_current self current }
     {
         let mut typing = self;
         typing.current = current;
@@ -36,7 +36,7 @@ impl Typing {
     }
 
     pub fn with_mode(self, mode: u8) -> Typing
-        ensures { result ≡ withMode self mode }
+        ensures { result ≡ with_mode self mode }
     {
         let mut typing = self;
         typing.mode = mode;

@@ -35,10 +35,10 @@ widen b x y =
     }
 
 -- the box after a list's pairs, an odd last word not taken
-unfoldable pub boxFrom : Box → List ℕ → Box
-boxFrom b [] = b
-boxFrom b (x ∷ []) = b
-boxFrom b (x ∷ y ∷ words) = boxFrom (widen b x y) words
+unfoldable pub box_from : Box → List ℕ → Box
+box_from b [] = b
+box_from b (x ∷ []) = b
+box_from b (x ∷ y ∷ words) = box_from (widen b x y) words
 
 -- an edge as a bit pattern
 abbrev pub bits_of : Float → ℕ

@@ -5,9 +5,9 @@ use Rattle.std.specs.Float.{nan, inf, fin}
 use Rattle.std.specs.Float.Ieee.{lt, is_nan}
 use Rattle.laws.specs.Every.{never}
 use Rattle.bbox.specs.declared.Box.{Box}
-use Rattle.bbox.specs.Box.{Side, least, greatest, beyond, moved, beginning, double, widen, boxFrom}
-use Rattle.bbox.specs.Less.{lt-from, beyond-over}
-use Rattle.bbox.specs.Again.{box_of}
+use Rattle.bbox.specs.Box.{Side, least, greatest, beyond, moved, beginning, double, widen, box_from}
+use Rattle.bbox.specs.Less.{lt_from, beyond-over}
+use Rattle.bbox.specs.Again.{box_of_lem}
 
 -- each edge of the first, replaced by the second's only where that is strictly beyond it
 unfoldable pub join : Box → Box → Box
@@ -19,32 +19,32 @@ join b c =
       greatest_y = moved greatest b.greatest_y c.greatest_y;
     }
 
-not-both : {t : Bool} → t ≡ true → t ≡ false → ⊥
-not-both h k = never (sym k ∙ h)
+not_both : {t : Bool} → t ≡ true → t ≡ false → ⊥
+not_both h k = never (sym k ∙ h)
 
 -- where x is not beyond the number y, y is beyond all that x is beyond
 beyond-from : (side : Side) (x y z : Float) → is_nan y ≡ false → beyond side x y ≡ false → beyond side x z ≡ true → beyond side y z ≡ true
-beyond-from least x y z n h k = lt-from x y z n h k
+beyond-from least x y z n h k = lt_from x y z n h k
 beyond-from greatest x y z n h k = go (lt z y) refl
   where
     go : (t : Bool) → lt z y ≡ t → t ≡ true
     go true e = refl
-    go false e = absurd (not-both (lt-from z y x n e k) h)
+    go false e = absurd (not_both (lt_from z y x n e k) h)
 
 -- ---- the edge that a side begins with
 abbrev start : Side → Float
 start least = inf false
 start greatest = inf true
 
-start-beyond-none : (side : Side) (edge : Float) → beyond side (start side) edge ≡ false
+start_beyond_none : (side : Side) (edge : Float) → beyond side (start side) edge ≡ false
 unfolding lt
-start-beyond-none least nan = refl
-start-beyond-none least (inf t) = refl
-start-beyond-none least (fin t n d) = refl
-start-beyond-none greatest nan = refl
-start-beyond-none greatest (inf true) = refl
-start-beyond-none greatest (inf false) = refl
-start-beyond-none greatest (fin t n d) = refl
+start_beyond_none least nan = refl
+start_beyond_none least (inf t) = refl
+start_beyond_none least (fin t n d) = refl
+start_beyond_none greatest nan = refl
+start_beyond_none greatest (inf true) = refl
+start_beyond_none greatest (inf false) = refl
+start_beyond_none greatest (fin t n d) = refl
 
 start-number : (side : Side) → is_nan (start side) ≡ false
 unfolding is_nan
@@ -52,12 +52,12 @@ start-number least = refl
 start-number greatest = refl
 
 -- what moves any edge moves the first
-moves-first : (side : Side) (edge x : Float) → beyond side x edge ≡ true → beyond side x (start side) ≡ true
-moves-first side edge x h = go (beyond side x (start side)) refl
+moves_first : (side : Side) (edge x : Float) → beyond side x edge ≡ true → beyond side x (start side) ≡ true
+moves_first side edge x h = go (beyond side x (start side)) refl
   where
     go : (t : Bool) → beyond side x (start side) ≡ t → t ≡ true
     go true e = refl
-    go false e = absurd (not-both (beyond-from side x (start side) edge (start-number side) e h) (start-beyond-none side edge))
+    go false e = absurd (not_both (beyond-from side x (start side) edge (start-number side) e h) (start_beyond_none side edge))
 
 beyond-number : (side : Side) (x edge : Float) → beyond side x edge ≡ true → is_nan x ≡ false
 unfolding lt is_nan
@@ -72,51 +72,51 @@ beyond-number greatest (fin s m e) edge h = refl
 
 -- ---- an edge moved by two values is moved by the one that moves the other, taken by itself
 moved-join : (side : Side) (edge x y : Float) → moved side (moved side edge x) y ≡ moved side edge (moved side (moved side (start side) x) y)
-moved-join side edge x y = by-x (beyond side x edge) refl
+moved-join side edge x y = by_x (beyond side x edge) refl
   where
     within : (p : Float) → is_nan p ≡ false → beyond side p edge ≡ false → moved side edge y ≡ moved side edge (moved side p y)
-    within p n h = by-y (beyond side y p) refl
+    within p n h = by_y (beyond side y p) refl
       where
         stays : beyond side y p ≡ false → (t : Bool) → beyond side y edge ≡ t → t ≡ false
-        stays e true g = absurd (not-both (beyond-from side y p edge n e g) h)
+        stays e true g = absurd (not_both (beyond-from side y p edge n e g) h)
         stays e false g = refl
 
-        by-y : (t : Bool) → beyond side y p ≡ t → moved side edge y ≡ moved side edge (cond t y p)
-        by-y true e = refl
-        by-y false e = rw (stays e (beyond side y edge) refl, h)
+        by_y : (t : Bool) → beyond side y p ≡ t → moved side edge y ≡ moved side edge (cond t y p)
+        by_y true e = refl
+        by_y false e = rw (stays e (beyond side y edge) refl, h)
 
     out : beyond side x edge ≡ true → moved side x y ≡ moved side edge (moved side x y)
-    out h = by-y (beyond side y x) refl
+    out h = by_y (beyond side y x) refl
       where
-        by-y : (t : Bool) → beyond side y x ≡ t → cond t y x ≡ moved side edge (cond t y x)
-        by-y true e = rw (beyond-over side y x edge e h)
-        by-y false e = rw h
+        by_y : (t : Bool) → beyond side y x ≡ t → cond t y x ≡ moved side edge (cond t y x)
+        by_y true e = rw (beyond-over side y x edge e h)
+        by_y false e = rw h
 
     by-start : beyond side x edge ≡ false → (t : Bool) → beyond side x (start side) ≡ t → moved side edge y ≡ moved side edge (moved side (cond t x (start side)) y)
     by-start h true e = within x (beyond-number side x (start side) e) h
-    by-start h false e = within (start side) (start-number side) (start-beyond-none side edge)
+    by-start h false e = within (start side) (start-number side) (start_beyond_none side edge)
 
-    by-x : (t : Bool) → beyond side x edge ≡ t → moved side (cond t x edge) y ≡ moved side edge (moved side (moved side (start side) x) y)
-    by-x true h = out h ∙ ap (λ (s : Bool). moved side edge (moved side (cond s x (start side)) y)) (sym (moves-first side edge x h))
-    by-x false h = by-start h (beyond side x (start side)) refl
+    by_x : (t : Bool) → beyond side x edge ≡ t → moved side (cond t x edge) y ≡ moved side edge (moved side (moved side (start side) x) y)
+    by_x true h = out h ∙ ap (λ (s : Bool). moved side edge (moved side (cond s x (start side)) y)) (sym (moves_first side edge x h))
+    by_x false h = by-start h (beyond side x (start side)) refl
 
 -- ---- all four
 join-beginning : (b : Box) → b ≡ join b beginning
 unfolding join beginning
-join-beginning b = box_of (none least b.least_x) (none least b.least_y) (none greatest b.greatest_x) (none greatest b.greatest_y)
+join-beginning b = box_of_lem (none least b.least_x) (none least b.least_y) (none greatest b.greatest_x) (none greatest b.greatest_y)
   where
     none : (side : Side) (edge : Float) → edge ≡ moved side edge (start side)
-    none side edge = rw (start-beyond-none side edge)
+    none side edge = rw (start_beyond_none side edge)
 
-join-widened : (b c : Box) (x y : ℕ) → join (widen b x y) c ≡ join b (join (widen beginning x y) c)
+join_widened : (b c : Box) (x y : ℕ) → join (widen b x y) c ≡ join b (join (widen beginning x y) c)
 unfolding join widen beginning
-join-widened b c x y =
-    box_of (moved-join least b.least_x (double x) c.least_x) (moved-join least b.least_y (double y) c.least_y)
+join_widened b c x y =
+    box_of_lem (moved-join least b.least_x (double x) c.least_x) (moved-join least b.least_y (double y) c.least_y)
     (moved-join greatest b.greatest_x (double x) c.greatest_x) (moved-join greatest b.greatest_y (double y) c.greatest_y)
 
-pub widened-by-box : (b : Box) (ws : List ℕ) → boxFrom b ws ≡ join b (boxFrom beginning ws)
-unfolding boxFrom
-widened-by-box b [] = join-beginning b
-widened-by-box b (x ∷ []) = join-beginning b
-widened-by-box b (x ∷ y ∷ ws) =
-    widened-by-box (widen b x y) ws ∙ join-widened b (boxFrom beginning ws) x y ∙ ap (join b) (sym (widened-by-box (widen beginning x y) ws))
+pub widened_by_box : (b : Box) (ws : List ℕ) → box_from b ws ≡ join b (box_from beginning ws)
+unfolding box_from
+widened_by_box b [] = join-beginning b
+widened_by_box b (x ∷ []) = join-beginning b
+widened_by_box b (x ∷ y ∷ ws) =
+    widened_by_box (widen b x y) ws ∙ join_widened b (box_from beginning ws) x y ∙ ap (join b) (sym (widened_by_box (widen beginning x y) ws))

@@ -29,32 +29,32 @@ below-over true false true a b c p q r P Q R h k = absurd (never k)
 below-over true true false a b c p q r P Q R h k = lt-ltb 0 (a * r + c * p) (omega (arith, some_of a q (b * p) r (ltb-true _ _ h) R))
 below-over true true true a b c p q r P Q R h k = lt-ltb _ _ (across c b a r q p R P (ltb-true _ _ k) (ltb-true _ _ h))
 
-pub lt-over : (x y z : Float) → lt x y ≡ true → lt y z ≡ true → lt x z ≡ true
+pub lt_over : (x y z : Float) → lt x y ≡ true → lt y z ≡ true → lt x z ≡ true
 unfolding lt
-lt-over nan y z h k = h
-lt-over (inf s) nan z h k = absurd (never h)
-lt-over (inf false) (inf t) z h k = absurd (never h)
-lt-over (inf true) (inf true) z h k = absurd (never h)
-lt-over (inf true) (inf false) nan h k = k
-lt-over (inf true) (inf false) (inf u) h k = absurd (never k)
-lt-over (inf true) (inf false) (fin u l g) h k = refl
-lt-over (inf false) (fin t n d) z h k = absurd (never h)
-lt-over (inf true) (fin t n d) nan h k = k
-lt-over (inf true) (fin t n d) (inf u) h k = k
-lt-over (inf true) (fin t n d) (fin u l g) h k = refl
-lt-over (fin s m e) nan z h k = absurd (never h)
-lt-over (fin s m e) (inf true) z h k = absurd (never h)
-lt-over (fin s m e) (inf false) nan h k = k
-lt-over (fin s m e) (inf false) (inf u) h k = absurd (never k)
-lt-over (fin s m e) (inf false) (fin u l g) h k = absurd (never k)
-lt-over (fin s m e) (fin t n d) nan h k = k
-lt-over (fin s m e) (fin t n d) (inf u) h k = k
-lt-over (fin s m e) (fin t n d) (fin u l g) h k =
+lt_over nan y z h k = h
+lt_over (inf s) nan z h k = absurd (never h)
+lt_over (inf false) (inf t) z h k = absurd (never h)
+lt_over (inf true) (inf true) z h k = absurd (never h)
+lt_over (inf true) (inf false) nan h k = k
+lt_over (inf true) (inf false) (inf u) h k = absurd (never k)
+lt_over (inf true) (inf false) (fin u l g) h k = refl
+lt_over (inf false) (fin t n d) z h k = absurd (never h)
+lt_over (inf true) (fin t n d) nan h k = k
+lt_over (inf true) (fin t n d) (inf u) h k = k
+lt_over (inf true) (fin t n d) (fin u l g) h k = refl
+lt_over (fin s m e) nan z h k = absurd (never h)
+lt_over (fin s m e) (inf true) z h k = absurd (never h)
+lt_over (fin s m e) (inf false) nan h k = k
+lt_over (fin s m e) (inf false) (inf u) h k = absurd (never k)
+lt_over (fin s m e) (inf false) (fin u l g) h k = absurd (never k)
+lt_over (fin s m e) (fin t n d) nan h k = k
+lt_over (fin s m e) (fin t n d) (inf u) h k = k
+lt_over (fin s m e) (fin t n d) (fin u l g) h k =
     below-over s t u (m * up e) (n * up d) (l * up g) (down e) (down d) (down g) (down_pos e) (down_pos d) (down_pos g) h k
 
 -- three fractions: not x / p < y / q, and x / p < z / r
-across-from : (x y z p q r : ℕ) → 0 < p → 0 < q → y * p ≤ x * q → x * r < z * p → y * r < z * q
-across-from x y z p q r P Q h k =
+across_from : (x y z p q r : ℕ) → 0 < p → 0 < q → y * p ≤ x * q → x * r < z * p → y * r < z * q
+across_from x y z p q r P Q h k =
     let a : y * p * r ≤ x * q * r = mul-le-mul_right r h in
     let b : x * r * q < z * p * q = mul-lt-mul_of_pos_right k Q in
     let g : y * r * p < z * q * p = omega (arith, mul_right_comm y p r, mul_right_comm x q r, mul_right_comm z p q) in
@@ -66,14 +66,14 @@ none_of (suc n) u h e = absurd (omega (arith, mul-pos {m = suc n} {n = u} (omega
 
 below-from : (s t u : Bool) (a b c p q r : ℕ) → 0 < p → 0 < q → 0 < r
     → below s (a * q) t (b * p) ≡ false → below s (a * r) u (c * p) ≡ true → below t (b * r) u (c * q) ≡ true
-below-from false false false a b c p q r P Q R h k = lt-ltb _ _ (across-from a b c p q r P Q (ltb-false _ _ h) (ltb-true _ _ k))
+below-from false false false a b c p q r P Q R h k = lt-ltb _ _ (across_from a b c p q r P Q (ltb-false _ _ h) (ltb-true _ _ k))
 below-from false t true a b c p q r P Q R h k = absurd (never k)
 below-from false true false a b c p q r P Q R h k = lt-ltb 0 (b * r + c * q) (omega (arith, some_of c p (a * r) q (ltb-true _ _ k) Q))
 below-from true false u a b c p q r P Q R h k =
     let none : a * q + b * p ≤ 0 = ltb-false 0 (a * q + b * p) h in
-    let no-a : a ≡ 0 = none_of a q Q (omega arith) in
-    let no-b : b ≡ 0 = none_of b p P (omega arith) in
-    go u (ap (λ (n : ℕ). n * r) no-a) (ap (λ (n : ℕ). n * r) no-b) k
+    let no_a : a ≡ 0 = none_of a q Q (omega arith) in
+    let no_b : b ≡ 0 = none_of b p P (omega arith) in
+    go u (ap (λ (n : ℕ). n * r) no_a) (ap (λ (n : ℕ). n * r) no_b) k
   where
     go : (u : Bool) → a * r ≡ 0 * r → b * r ≡ 0 * r → below true (a * r) u (c * p) ≡ true → below false (b * r) u (c * q) ≡ true
     go false d e k = lt-ltb (b * r) (c * q) (omega (arith, some_of c p 0 q (omega (arith, ltb-true 0 (a * r + c * p) k)) Q))
@@ -94,42 +94,42 @@ below-from true true true a b c p q r P Q R h k = lt-ltb _ _ (from (ltb-false (b
         lt_of_mul-lt-mul_right p g
 
 -- where x is not below the number y, y is below all that x is below
-pub lt-from : (x y z : Float) → is_nan y ≡ false → lt x y ≡ false → lt x z ≡ true → lt y z ≡ true
+pub lt_from : (x y z : Float) → is_nan y ≡ false → lt x y ≡ false → lt x z ≡ true → lt y z ≡ true
 unfolding lt is_nan
-lt-from nan y z n h k = absurd (never k)
-lt-from (inf false) y nan n h k = absurd (never k)
-lt-from (inf false) y (inf u) n h k = absurd (never k)
-lt-from (inf false) y (fin u l g) n h k = absurd (never k)
-lt-from (inf true) nan z n h k = absurd (never (sym n))
-lt-from (inf true) (inf false) z n h k = absurd (never (sym h))
-lt-from (inf true) (inf true) z n h k = k
-lt-from (inf true) (fin t j d) z n h k = absurd (never (sym h))
-lt-from (fin s m e) nan z n h k = absurd (never (sym n))
-lt-from (fin s m e) (inf false) z n h k = absurd (never (sym h))
-lt-from (fin s m e) (inf true) nan n h k = absurd (never k)
-lt-from (fin s m e) (inf true) (inf u) n h k = k
-lt-from (fin s m e) (inf true) (fin u l g) n h k = refl
-lt-from (fin s m e) (fin t j d) nan n h k = absurd (never k)
-lt-from (fin s m e) (fin t j d) (inf u) n h k = k
-lt-from (fin s m e) (fin t j d) (fin u l g) n h k =
+lt_from nan y z n h k = absurd (never k)
+lt_from (inf false) y nan n h k = absurd (never k)
+lt_from (inf false) y (inf u) n h k = absurd (never k)
+lt_from (inf false) y (fin u l g) n h k = absurd (never k)
+lt_from (inf true) nan z n h k = absurd (never (sym n))
+lt_from (inf true) (inf false) z n h k = absurd (never (sym h))
+lt_from (inf true) (inf true) z n h k = k
+lt_from (inf true) (fin t j d) z n h k = absurd (never (sym h))
+lt_from (fin s m e) nan z n h k = absurd (never (sym n))
+lt_from (fin s m e) (inf false) z n h k = absurd (never (sym h))
+lt_from (fin s m e) (inf true) nan n h k = absurd (never k)
+lt_from (fin s m e) (inf true) (inf u) n h k = k
+lt_from (fin s m e) (inf true) (fin u l g) n h k = refl
+lt_from (fin s m e) (fin t j d) nan n h k = absurd (never k)
+lt_from (fin s m e) (fin t j d) (inf u) n h k = k
+lt_from (fin s m e) (fin t j d) (fin u l g) n h k =
     below-from s t u (m * up e) (j * up d) (l * up g) (down e) (down d) (down g) (down_pos e) (down_pos d) (down_pos g) h k
 
 same : (a : ℕ) → ltb a a ≡ false
 same a = le-ltb a a (omega arith)
 
-pub lt-never : (x : Float) → lt x x ≡ false
+pub lt_never : (x : Float) → lt x x ≡ false
 unfolding lt
-lt-never nan = refl
-lt-never (inf true) = refl
-lt-never (inf false) = refl
-lt-never (fin true m e) = same (m * up e * down e)
-lt-never (fin false m e) = same (m * up e * down e)
+lt_never nan = refl
+lt_never (inf true) = refl
+lt_never (inf false) = refl
+lt_never (fin true m e) = same (m * up e * down e)
+lt_never (fin false m e) = same (m * up e * down e)
 
 -- ---- the same on both sides of a box
-pub beyond-never : (side : Side) (a : Float) → beyond side a a ≡ false
-beyond-never least a = lt-never a
-beyond-never greatest a = lt-never a
+pub beyond_never : (side : Side) (a : Float) → beyond side a a ≡ false
+beyond_never least a = lt_never a
+beyond_never greatest a = lt_never a
 
 pub beyond-over : (side : Side) (a b c : Float) → beyond side a b ≡ true → beyond side b c ≡ true → beyond side a c ≡ true
-beyond-over least a b c h k = lt-over a b c h k
-beyond-over greatest a b c h k = lt-over c b a k h
+beyond-over least a b c h k = lt_over a b c h k
+beyond-over greatest a b c h k = lt_over c b a k h

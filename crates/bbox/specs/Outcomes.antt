@@ -23,29 +23,29 @@ abbrev first : Side → Float
 first least = beginning.least_x
 first greatest = beginning.greatest_x
 
-zero-moves-no-zero : (side : Side) (sign : Bool) → moved side (zero sign) (zero (not sign)) ≡ zero sign
+zero_moves_no_zero : (side : Side) (sign : Bool) → moved side (zero sign) (zero (not sign)) ≡ zero sign
 unfolding of_bits lt
-zero-moves-no-zero least false = refl
-zero-moves-no-zero least true = refl
-zero-moves-no-zero greatest false = refl
-zero-moves-no-zero greatest true = refl
+zero_moves_no_zero least false = refl
+zero_moves_no_zero least true = refl
+zero_moves_no_zero greatest false = refl
+zero_moves_no_zero greatest true = refl
 
-infinity-moves-number : (side : Side) (s : Bool) (m : ℕ) (e : ℤ) → moved side (fin s m e) (infinity (outward side)) ≡ infinity (outward side)
+infinity_moves_number : (side : Side) (s : Bool) (m : ℕ) (e : ℤ) → moved side (fin s m e) (infinity (outward side)) ≡ infinity (outward side)
 unfolding of_bits lt
-infinity-moves-number least s m e = refl
-infinity-moves-number greatest s m e = refl
+infinity_moves_number least s m e = refl
+infinity_moves_number greatest s m e = refl
 
-number-moves-first : (side : Side) (s : Bool) (m : ℕ) (e : ℤ) → moved side (first side) (fin s m e) ≡ fin s m e
+number_moves_first : (side : Side) (s : Bool) (m : ℕ) (e : ℤ) → moved side (first side) (fin s m e) ≡ fin s m e
 unfolding lt beginning
-number-moves-first least s m e = refl
-number-moves-first greatest s m e = refl
+number_moves_first least s m e = refl
+number_moves_first greatest s m e = refl
 
-infinity-moves-first : (side : Side) → moved side (first side) (infinity (outward side)) ≡ infinity (outward side)
+infinity_moves_first : (side : Side) → moved side (first side) (infinity (outward side)) ≡ infinity (outward side)
 unfolding of_bits lt beginning
-infinity-moves-first least = refl
-infinity-moves-first greatest = refl
+infinity_moves_first least = refl
+infinity_moves_first greatest = refl
 
-same-infinity-leaves-first : (side : Side) → moved side (first side) (infinity (not (outward side))) ≡ first side
+same_infinity_leaves_first : (side : Side) → moved side (first side) (infinity (not (outward side))) ≡ first side
 unfolding of_bits lt beginning
-same-infinity-leaves-first least = refl
-same-infinity-leaves-first greatest = refl
+same_infinity_leaves_first least = refl
+same_infinity_leaves_first greatest = refl

@@ -2,11 +2,11 @@
 use Rattle.std.specs.Prelude.{◌≡◌, refl, List, [], ◌∷◌, ℕ, suc, ◌+◌, ◌<◌, ◌≤◌, length, get_or, drop}
 use Rattle.std.proofs.Common.{arith, length-drop, drop-cons}
 use Rattle.bbox.specs.declared.Box.{Box}
-use Rattle.bbox.specs.Box.{widen, boxFrom}
+use Rattle.bbox.specs.Box.{widen, box_from}
 
 pub pair-taken : (b : Box) (ws : List ℕ) (i : ℕ) → i + 1 < length ws
-    → boxFrom b (drop i ws) ≡ boxFrom (widen b (get_or ws i 0) (get_or ws (i + 1) 0)) (drop (i + 2) ws)
-unfolding boxFrom
+    → box_from b (drop i ws) ≡ box_from (widen b (get_or ws i 0) (get_or ws (i + 1) 0)) (drop (i + 2) ws)
+unfolding box_from
 pair-taken b ws i h =
     let h₀ : i < length ws = omega arith in
     let h₁ : suc i < length ws = omega arith in
@@ -14,14 +14,14 @@ pair-taken b ws i h =
     let e₂ : i + 2 ≡ suc (suc i) = omega arith in
     rw (drop-cons ws i 0, drop-cons ws (suc i) 0, e, e₂)
 
-no-pair : (b : Box) (ws : List ℕ) → length ws < 2 → boxFrom b ws ≡ b
-unfolding boxFrom
-no-pair b [] h = refl
-no-pair b (x ∷ []) h = refl
-no-pair b (x ∷ y ∷ ws) h = absurd (too_long h)
+no_pair_lem : (b : Box) (ws : List ℕ) → length ws < 2 → box_from b ws ≡ b
+unfolding box_from
+no_pair_lem b [] h = refl
+no_pair_lem b (x ∷ []) h = refl
+no_pair_lem b (x ∷ y ∷ ws) h = absurd (too_long h)
   where
     too_long : suc (suc (length ws)) < 2 → ⊥
     too_long h = omega arith
 
-pub pairs-done : (b : Box) (ws : List ℕ) (i : ℕ) → length ws ≤ i + 1 → boxFrom b (drop i ws) ≡ b
-pairs-done b ws i h = no-pair b (drop i ws) (omega (arith, length-drop i ws))
+pub pairs-done : (b : Box) (ws : List ℕ) (i : ℕ) → length ws ≤ i + 1 → box_from b (drop i ws) ≡ b
+pairs-done b ws i h = no_pair_lem b (drop i ws) (omega (arith, length-drop i ws))

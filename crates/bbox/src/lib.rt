@@ -4,7 +4,7 @@ mod edges;
 ghost use Rattle.std.specs.Prelude.{◌≡◌};
 ghost use Rattle.std.specs.Float.{binary64};
 ghost use Rattle.std.specs.Float.Ieee.{nan_bits};
-ghost use Rattle.bbox.specs.Box.{least, greatest, moved, beginning, double, widen, boxFrom, bits_of};
+ghost use Rattle.bbox.specs.Box.{least, greatest, moved, beginning, double, widen, box_from, bits_of};
 
 pub use edges::edges_of;
 
@@ -75,7 +75,7 @@ impl Box {
 
     // By a list's pairs; a last word without a partner is left out.
     pub fn widened_by(self, words: &[u64]) -> Self
-        ensures { result ≡ boxFrom self words.now }
+        ensures { result ≡ box_from self words.now }
     {
         let mut around = self;
         let mut i = 0;

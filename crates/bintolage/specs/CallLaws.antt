@@ -4,55 +4,55 @@ use Rattle.std.proofs.Common.{sym, ap, subst, ◌∙◌, arith, length-take, eqb
 use Rattle.std.proofs.lemmas.Bool.{eqb-false}
 use mir.Val.{bool_byte}
 use Rattle.laws.specs.Script.{Script, Format}
-use Rattle.laws.specs.Cut.{Said, recordsOf, roomOf}
+use Rattle.laws.specs.Cut.{Said, records_of, room_of}
 use Rattle.kinds.specs.Event.{WellFormed, Malformed, BareOf}
 use Rattle.kinds.specs.declared.event.Bare.{Bare}
 use Rattle.kinds.specs.declared.event.Bare.TheVariants.{Pair as BarePair}
 use Rattle.kinds.specs.declared.event.Heard.TheVariants.{Pair}
 use Rattle.log.specs.Log.{heard}
-use Rattle.log.specs.LogLaws.{HeardPair, not-whole, behind}
+use Rattle.log.specs.LogLaws.{HeardPair, not_whole, behind}
 use Rattle.runs.specs.declared.took.Took.{Took}
 use Rattle.writing.specs.declared.state.State.{State}
 use Rattle.writing.specs.declared.state.Wrote.{Wrote}
 use Rattle.writing.specs.State.{Mem, Outcome, outcome}
 use Rattle.runs.specs.Events.{Progress, progress}
-use Rattle.as_words.specs.Words.{state_of, wordsAfter, wordsAfterAll}
-use Rattle.bintolage.specs.Calls.{one, kept, keptOf, taken, taken_of}
+use Rattle.as_words.specs.Words.{state_of, words_after, words_after_all}
+use Rattle.bintolage.specs.Calls.{one, kept, kept_of, taken, taken_of}
 
 -- bytes that a quick look tells to be a pair are heard as it,
 pub look-heard : (bytes : List ℕ) {look : Bare} {x y : ℕ} → BareOf (heard bytes) look → look ≡ BarePair x y → HeardPair bytes x y
 look-heard bytes {x = x} {y = y} said is = behind bytes (Pair x y) (subst (λ (look : Bare). BareOf (heard bytes) look) is said)
 
 -- and are a whole record
-pub pair-whole : (bytes : List ℕ) {x y : ℕ} → HeardPair bytes x y → length bytes ≡ 64
-pair-whole bytes h = by-test (eqb (length bytes) 64) refl
+pub pair_whole : (bytes : List ℕ) {x y : ℕ} → HeardPair bytes x y → length bytes ≡ 64
+pair_whole bytes h = by-test (eqb (length bytes) 64) refl
   where
     by-test : (long : Bool) → eqb (length bytes) 64 ≡ long → length bytes ≡ 64
     by-test true e = eqb-true (length bytes) 64 e
     by-test false e =
-        let told : WellFormed h.event ≡ Malformed = sym h.is ∙ not-whole bytes (eqb-false (length bytes) 64 e) in
+        let told : WellFormed h.event ≡ Malformed = sym h.is ∙ not_whole bytes (eqb-false (length bytes) 64 e) in
         let z : ◌≡◌ {A = ℕ} 0 1 = cc in
         absurd (omega arith)
 
 -- a writing call on the state of the words, whose answer is kept in them
-pub kept-call : (call : State → Outcome) (words : List ℕ) {s : State} {r : Wrote} {number : ℕ} {after : List ℕ} (mem : Mem)
-    → s ≡ state_of words → outcome r mem ≡ call s → number ≡ r.number → after ≡ wordsAfter words r
-    → kept number after mem ≡ keptOf words (call (state_of words))
-unfolding keptOf
-kept-call call words mem same called number_is words_are = rw (number_is, words_are) (ap (keptOf words) called ∙ ap (λ (s : State). keptOf words (call s)) same)
+pub kept_call : (call : State → Outcome) (words : List ℕ) {s : State} {r : Wrote} {number : ℕ} {after : List ℕ} (mem : Mem)
+    → s ≡ state_of words → outcome r mem ≡ call s → number ≡ r.number → after ≡ words_after words r
+    → kept number after mem ≡ kept_of words (call (state_of words))
+unfolding kept_of
+kept_call call words mem same called number_is words_are = rw (number_is, words_are) (ap (kept_of words) called ∙ ap (λ (s : State). kept_of words (call s)) same)
 
-pub taken-call : (call : State → Progress) (words : List ℕ) {s : State} {r : Took} {number count : ℕ} {after : List ℕ} (mem : Mem)
-    → s ≡ state_of words → progress r mem ≡ call s → number ≡ r.number → count ≡ r.taken → after ≡ wordsAfterAll words r
+pub taken_call : (call : State → Progress) (words : List ℕ) {s : State} {r : Took} {number count : ℕ} {after : List ℕ} (mem : Mem)
+    → s ≡ state_of words → progress r mem ≡ call s → number ≡ r.number → count ≡ r.taken → after ≡ words_after_all words r
     → taken number count after mem ≡ taken_of words (call (state_of words))
 unfolding taken_of
-taken-call call words mem same called number_is count-is words_are = rw (number_is, count-is, words_are) (ap (taken_of words) called ∙ ap (λ (s : State). taken_of words (call s)) same)
+taken_call call words mem same called number_is count-is words_are = rw (number_is, count-is, words_are) (ap (taken_of words) called ∙ ap (λ (s : State). taken_of words (call s)) same)
 
 -- a count of log records fits 32 bits
 pub count_most : {A : Type 0} (F : Format A) (s : Script A) (L : List ℕ) {number count : ℕ} {M : List ℕ} → Said F s L number count M → count ≤ 1048576
-unfolding roomOf
-count_most F s L said = omega (arith, said.count-is, length-take (roomOf F.wide L) (recordsOf s))
+unfolding room_of
+count_most F s L said = omega (arith, said.count-is, length-take (room_of F.wide L) (records_of s))
 
 -- a bool that is cast to a byte
-pub stop-byte : (b : Bool) → bool_byte b ≡ one b
-stop-byte true = refl
-stop-byte false = refl
+pub stop_byte : (b : Bool) → bool_byte b ≡ one b
+stop_byte true = refl
+stop_byte false = refl

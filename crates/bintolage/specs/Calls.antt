@@ -2,7 +2,7 @@
 use Rattle.std.specs.Prelude.{Bool, cond, not, List, ℕ, eqb}
 use Rattle.writing.specs.State.{Mem, Outcome}
 use Rattle.runs.specs.Events.{Progress}
-use Rattle.as_words.specs.Words.{wordsAfter, wordsAfterAll}
+use Rattle.as_words.specs.Words.{words_after, words_after_all}
 
 -- 0 is no, all else yes
 abbrev pub yes : ℕ → Bool
@@ -21,8 +21,8 @@ pub record Kept : Type 0 where
 abbrev pub kept : ℕ → List ℕ → Mem → Kept
 kept number words mem = record { number = number; words = words; mem = mem }
 
-unfoldable pub keptOf : List ℕ → Outcome → Kept
-keptOf words o = kept o.wrote.number (wordsAfter words o.wrote) o.mem
+unfoldable pub kept_of : List ℕ → Outcome → Kept
+kept_of words o = kept o.wrote.number (words_after words o.wrote) o.mem
 
 -- what taking events comes to: how many were taken, too
 pub record Taken : Type 0 where
@@ -35,4 +35,4 @@ abbrev pub taken : ℕ → ℕ → List ℕ → Mem → Taken
 taken number count words mem = record { number = number; taken = count; words = words; mem = mem }
 
 unfoldable pub taken_of : List ℕ → Progress → Taken
-taken_of words p = taken p.took.number p.took.taken (wordsAfterAll words p.took) p.mem
+taken_of words p = taken p.took.number p.took.taken (words_after_all words p.took) p.mem

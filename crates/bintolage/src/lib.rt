@@ -1,24 +1,24 @@
 // The library that a machine builder links: every call, on plain numbers and lent memory.
 ghost use Rattle.std.specs.Prelude.{◌≡◌, length};
 ghost use Rattle.laws.specs.Cut.{Said};
-ghost use Rattle.store.specs.Lists.{poolsOf, recordWith};
+ghost use Rattle.store.specs.Lists.{pools_of, record_with};
 ghost use Rattle.log.specs.Log.{events as eventRecords};
 ghost use Rattle.property_value.specs.Value.{placed};
-ghost use Rattle.property_reader.specs.Reading.{reading, badIn, stopped as stopping};
+ghost use Rattle.property_reader.specs.Reading.{reading, bad_in, stopped as stopping};
 ghost use Rattle.log.specs.Values.{values};
-ghost use Rattle.property_writer.specs.Writing.{bytesAfter};
-ghost use Rattle.reader.specs.Reading.{readS};
-ghost use Rattle.wkb_reader.specs.Reading.{readingR};
+ghost use Rattle.property_writer.specs.Writing.{bytes_after};
+ghost use Rattle.reader.specs.Reading.{read_s};
+ghost use Rattle.wkb_reader.specs.Reading.{reading_r};
 ghost use Rattle.wkb_written.specs.Writing.{writing, Did};
-ghost use Rattle.record_box.specs.Boxed.{boxOf};
+ghost use Rattle.record_box.specs.Boxed.{box_of};
 ghost use Rattle.writing.specs.State.{mem_of};
-ghost use Rattle.writing.specs.Calls.{started, eventCall, finishCall, nextCall};
-ghost use Rattle.runs.specs.Events.{eventsCall};
-ghost use Rattle.writer.specs.Property.{propertyCall, propertyPlace};
+ghost use Rattle.writing.specs.Calls.{started, event_call, finish_call, next_call};
+ghost use Rattle.runs.specs.Events.{events_call};
+ghost use Rattle.writer.specs.Property.{property_call, property_place};
 ghost use Rattle.kinds.specs.Flags.{flags_of};
-ghost use Rattle.bbox.specs.Edges.{edgesOf};
-ghost use Rattle.as_words.specs.Words.{state_of, wordsOf, wordsAfter};
-ghost use Rattle.bintolage.specs.Calls.{yes, one, kept, keptOf, taken as takenWith, taken_of};
+ghost use Rattle.bbox.specs.Edges.{edges_of};
+ghost use Rattle.as_words.specs.Words.{state_of, words_of, words_after};
+ghost use Rattle.bintolage.specs.Calls.{yes, one, kept, kept_of, taken as takenWith, taken_of};
 
 use as_words::state::{StateWords, keep, keep_all, state_of, words_of};
 use bbox::edges_of;
@@ -28,7 +28,7 @@ use kinds::flags::Flags;
 // A writer's first state. 0 is no, all else yes.
 #[unsafe(no_mangle)]
 pub extern "C" fn bintolage_start(state: &mut StateWords, declared: u8, detect: u8, promote: u8)
-    ensures { state.new ≡ wordsOf (started declared (yes detect) (yes promote)) }
+    ensures { state.new ≡ words_of (started declared (yes detect) (yes promote)) }
 {
     let first = words_of(writer::start(declared, detect != 0, promote != 0));
     *state = first;
@@ -50,7 +50,7 @@ pub extern "C" fn bintolage_event(
     ensures { let before = mem_of table.old xy.old ends.old z.old m.old t.old tm.old in
         let after = mem_of table.new xy.new ends.new z.new m.new t.new tm.new in
         let words = state.old in
-        kept result state.new after ≡ keptOf words (eventCall (state_of words) before event.now) }
+        kept result state.new after ≡ kept_of words (event_call (state_of words) before event.now) }
 {
     let before = *state;
     // A pair by itself is the commonest call, and with a keep of its own the state's words are packed in registers.
@@ -81,7 +81,7 @@ pub extern "C" fn bintolage_events(
     ensures { let before = mem_of table.old xy.old ends.old z.old m.old t.old tm.old in
         let after = mem_of table.new xy.new ends.new z.new m.new t.new tm.new in
         let words = state.old in
-        takenWith result taken.new state.new after ≡ taken_of words (eventsCall (state_of words) before events.now) }
+        takenWith result taken.new state.new after ≡ taken_of words (events_call (state_of words) before events.now) }
 {
     let before = *state;
     let took = many::events(state_of(before), events, table, xy, ends, z, m, t, tm);
@@ -100,13 +100,13 @@ pub extern "C" fn bintolage_property(
     buffer: &mut [u8],
     place: &mut usize,
 ) -> u8
-    ensures answer { let call = propertyCall (state_of state.old) column column_type bits text.now buffer.old in
+    ensures answer { let call = property_call (state_of state.old) column column_type bits text.now buffer.old in
         result ≡ call.number }
-    ensures words { let call = propertyCall (state_of state.old) column column_type bits text.now buffer.old in
-        state.new ≡ wordsAfter state.old call }
+    ensures words { let call = property_call (state_of state.old) column column_type bits text.now buffer.old in
+        state.new ≡ words_after state.old call }
     ensures bytes { let s = state_of state.old in
-        buffer.new ≡ bytesAfter s.waiting s.properties column column_type bits text.now buffer.old }
-    ensures place { place.new ≡ propertyPlace (state_of state.old) column column_type bits text.now buffer.old }
+        buffer.new ≡ bytes_after s.waiting s.properties column column_type bits text.now buffer.old }
+    ensures place { place.new ≡ property_place (state_of state.old) column column_type bits text.now buffer.old }
 {
     let before = *state;
     let put = writer::property(state_of(before), column, column_type, bits, text, buffer);
@@ -130,7 +130,7 @@ pub extern "C" fn bintolage_finish(
     ensures { let before = mem_of table.old xy.now ends.now z.now m.now t.now tm.now in
         let after = mem_of table.new xy.now ends.now z.now m.now t.now tm.now in
         let words = state.old in
-        kept result state.new after ≡ keptOf words (finishCall (state_of words) before) }
+        kept result state.new after ≡ kept_of words (finish_call (state_of words) before) }
 {
     let before = *state;
     let finished = writer::finish(state_of(before), table, xy, ends, z, m, t, tm);
@@ -152,7 +152,7 @@ pub extern "C" fn bintolage_next(
     ensures { let before = mem_of table.now xy.old ends.old z.old m.old t.old tm.old in
         let after = mem_of table.now xy.new ends.new z.new m.new t.new tm.new in
         let words = state.old in
-        kept result state.new after ≡ keptOf words (nextCall (state_of words) before) }
+        kept result state.new after ≡ kept_of words (next_call (state_of words) before) }
 {
     let before = *state;
     let renewed = writer::next(state_of(before), table, xy, ends, z, m, t, tm);
@@ -175,8 +175,8 @@ pub extern "C" fn bintolage_read(
     log: &mut [u8],
     count: &mut u32,
 ) -> u8
-    ensures { let P = poolsOf xy.now ends.now z.now m.now t.now tm.now in
-        let script = readS (flags_of flags) (recordWith table.now P) declared in
+    ensures { let P = pools_of xy.now ends.now z.now m.now t.now tm.now in
+        let script = read_s (flags_of flags) (record_with table.now P) declared in
         Said (eventRecords feature) script log.old result count.new log.new }
 {
     let read = reader::read(
@@ -205,7 +205,7 @@ pub extern "C" fn bintolage_read_wkb(
     log: &mut [u8],
     count: &mut u32,
 ) -> u8
-    ensures { Said (eventRecords feature) (readingR bytes.now) log.old result count.new log.new }
+    ensures { Said (eventRecords feature) (reading_r bytes.now) log.old result count.new log.new }
 {
     let read = wkb_reader::read_wkb(bytes, feature, log);
     *count = read.count as u32;
@@ -242,7 +242,7 @@ pub extern "C" fn bintolage_read_properties(
         Said values script log.old result count.new log.new }
     ensures stop { let script = reading bytes.now (yes has_columns) columns.now stop in
         stopped.new ≡ one (stopping stop script result) }
-    ensures place { let bad = badIn bytes.now (yes has_columns) columns.now stop in
+    ensures place { let bad = bad_in bytes.now (yes has_columns) columns.now stop in
         place.new ≡ placed result bad }
 {
     let read = property_reader::read_properties(bytes, has_columns != 0, columns, stop, log);
@@ -265,9 +265,9 @@ pub extern "C" fn bintolage_box(
     n: u32,
     edges: &mut [u64; 4],
 ) -> u8
-    ensures { let P = poolsOf xy.now ends.now z.now m.now t.now tm.now in
-        let boxed = boxOf (recordWith table.now P) n in
-        (result ≡ boxed.number) × (edges.new ≡ edgesOf boxed.bbox) }
+    ensures { let P = pools_of xy.now ends.now z.now m.now t.now tm.now in
+        let boxed = box_of (record_with table.now P) n in
+        (result ≡ boxed.number) × (edges.new ≡ edges_of boxed.bbox) }
 {
     let boxed = record_box::box_at(table, xy, ends, z, m, t, tm, n as usize);
     let bits = edges_of(boxed.bbox);

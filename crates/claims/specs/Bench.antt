@@ -3,132 +3,132 @@ use Rattle.std.specs.Prelude.{◌≡◌, refl, Bool, true, false, List, [], ◌�
 use Rattle.std.proofs.Math.Option.{Option, none, some}
 use Rattle.laws.specs.Script.{Script, stop, say, ◌⨟◌, out, run}
 use Rattle.laws.specs.Framed.{framed}
-use Rattle.laws.specs.Cut.{recordsOf, roomOf, Said, Whole, said-whole}
-use Rattle.geometry_layout.specs.Geometry.{geometryOf, soundGeometry, readGeometry}
-use Rattle.kinds.specs.Event.{beginE, endE, xyE}
+use Rattle.laws.specs.Cut.{records_of, room_of, Said, Whole, said_whole}
+use Rattle.geometry_layout.specs.Geometry.{geometry_of, sound_geometry, read_geometry}
+use Rattle.kinds.specs.Event.{begin_e, end_e, xy_e}
 use Rattle.kinds.specs.declared.event.Event.{Event}
-use Rattle.store.specs.Lists.{Rec, Pools, poolsOf, recordWith}
+use Rattle.store.specs.Lists.{Rec, Pools, pools_of, record_with}
 use Rattle.log.specs.Log.{events}
-use Rattle.store.specs.Records.{hasRecord, recordIn, listsIn, recordAt}
-use Rattle.coords.specs.Coords.{pairS, coordsS, betweenS}
-use Rattle.lines.specs.Lines.{stretchS, linesS, flatO, flatS, ringsS, stretchesS, polygonS, multiLineS, pointS}
-use Rattle.reader.specs.Reading.{spanS, partsS, kindS, geometryS, rootS, readS}
-use Rattle.reader.specs.Examples.{noFlags}
+use Rattle.store.specs.Records.{has_record, record_in, lists_in, record_at}
+use Rattle.coords.specs.Coords.{pair_s, coords_s, between_s}
+use Rattle.lines.specs.Lines.{stretch_s, lines_s, flat_o, flat_s, rings_s, stretches_s, polygon_s, multi_line_s, point_s}
+use Rattle.reader.specs.Reading.{span_s, parts_s, kind_s, geometry_s, root_s, read_s}
+use Rattle.reader.specs.Examples.{no_flags}
 use Rattle.property_reader.specs.Reading.{reading}
 use Rattle.log.specs.Values.{values}
 use Rattle.properties.specs.Examples as Properties
 use Rattle.writing.specs.State.{Mem}
-use Rattle.writing.specs.Calls.{started, eventCall}
+use Rattle.writing.specs.Calls.{started, event_call}
 use Rattle.writer_model.specs.Bench.{line, lines, polygon, two, three, four, rec, root}
 use Rattle.writer_model.specs.BenchCalls as Called
 use Rattle.writer_model.specs.BenchCalls.{blank, Makes}
-use Rattle.writer_model.specs.Feature.{finishedMem}
+use Rattle.writer_model.specs.Feature.{finished_mem}
 use Rattle.writer_model.specs.Tree.{Holds}
 use Rattle.geometries.specs.Told.{told}
 
 -- reading a table and pools under a declared type says s; and whatever `read` under any number answers and leaves by its contract, from a log with room: s's number, its events with that number, and the rest of the log untouched
 pub record Says (table : List ℕ) (P : Pools) (declared : ℕ) (s : Script Event) : Type 0 where
-  pub script : readS noFlags (recordWith table P) declared ≡ s
-  pub logged : (n : ℕ) (L : List ℕ) (number count : ℕ) (M : List ℕ) → length (recordsOf s) ≤ roomOf 64 L
-      → Said (events n) (readS noFlags (recordWith table P) declared) L number count M → Whole (events n) s L number count M
+  pub script : read_s no_flags (record_with table P) declared ≡ s
+  pub logged : (n : ℕ) (L : List ℕ) (number count : ℕ) (M : List ℕ) → length (records_of s) ≤ room_of 64 L
+      → Said (events n) (read_s no_flags (record_with table P) declared) L number count M → Whole (events n) s L number count M
 
-says : (table : List ℕ) (P : Pools) (declared : ℕ) (s : Script Event) → readS noFlags (recordWith table P) declared ≡ s → Says table P declared s
+says : (table : List ℕ) (P : Pools) (declared : ℕ) (s : Script Event) → read_s no_flags (record_with table P) declared ≡ s → Says table P declared s
 unfolding events
-says table P declared s e = record { script = e; logged = λ n L number count M room said. said-whole (events n) s L number count M room (rw e at said) }
+says table P declared s e = record { script = e; logged = λ n L number count M room said. said_whole (events n) s L number count M room (rw e at said) }
 
 -- under every number every call is accepted, the finished tree is t, and reading it under the declared type says s
 abbrev Gives : ℕ → Bool → Bool → Mem → List Event → List Rec → Script Event → Type 0
 Gives declared detect promote k es t s =
     (n : ℕ) → Makes declared detect promote n k es t
-    × Says (finishedMem (started declared detect promote) n k es).table (finishedMem (started declared detect promote) n k es).pools declared s
+    × Says (finished_mem (started declared detect promote) n k es).table (finished_mem (started declared detect promote) n k es).pools declared s
 
 -- ---- what is said of the trees of B1 to B9, wherever they stand
 module _ (get : ℕ → Option Rec) where
-  b1-says : Holds get 0 (rec 0 (1 ∷ 2 ∷ 3 ∷ 4 ∷ 5 ∷ 6 ∷ 1 ∷ 2 ∷ []) none ∷ []) → readS noFlags get 3 ≡ (told (polygon (four ∷ [])))
-  unfolding readS rootS geometryS kindS polygonS stretchesS ringsS flatS flatO framed coordsS pairS ◌⨟◌
-  b1-says h = rw h.0
+  b1_says : Holds get 0 (rec 0 (1 ∷ 2 ∷ 3 ∷ 4 ∷ 5 ∷ 6 ∷ 1 ∷ 2 ∷ []) none ∷ []) → read_s no_flags get 3 ≡ (told (polygon (four ∷ [])))
+  unfolding read_s root_s geometry_s kind_s polygon_s stretches_s rings_s flat_s flat_o framed coords_s pair_s ◌⨟◌
+  b1_says h = rw h.0
 
-  b2-says : Holds get 0 (rec 0 (1 ∷ 2 ∷ 3 ∷ 4 ∷ 5 ∷ 6 ∷ 1 ∷ 2 ∷ 1 ∷ 2 ∷ 3 ∷ 4 ∷ 5 ∷ 6 ∷ 1 ∷ 2 ∷ []) (some (4 ∷ 8 ∷ [])) ∷ []) → readS noFlags get 3 ≡ (told (polygon (four ∷ four ∷ [])))
-  unfolding readS rootS geometryS kindS polygonS stretchesS ringsS linesS stretchS framed betweenS coordsS pairS ◌⨟◌
-  b2-says h = rw h.0
+  b2_says : Holds get 0 (rec 0 (1 ∷ 2 ∷ 3 ∷ 4 ∷ 5 ∷ 6 ∷ 1 ∷ 2 ∷ 1 ∷ 2 ∷ 3 ∷ 4 ∷ 5 ∷ 6 ∷ 1 ∷ 2 ∷ []) (some (4 ∷ 8 ∷ [])) ∷ []) → read_s no_flags get 3 ≡ (told (polygon (four ∷ four ∷ [])))
+  unfolding read_s root_s geometry_s kind_s polygon_s stretches_s rings_s lines_s stretch_s framed between_s coords_s pair_s ◌⨟◌
+  b2_says h = rw h.0
 
-  b3-says : Holds get 0 (rec 0 [] none ∷ []) → readS noFlags get 3 ≡ (told (polygon ([] ∷ [])))
-  unfolding readS rootS geometryS kindS polygonS stretchesS ringsS flatS flatO framed coordsS ◌⨟◌
-  b3-says h = rw h.0
+  b3_says : Holds get 0 (rec 0 [] none ∷ []) → read_s no_flags get 3 ≡ (told (polygon ([] ∷ [])))
+  unfolding read_s root_s geometry_s kind_s polygon_s stretches_s rings_s flat_s flat_o framed coords_s ◌⨟◌
+  b3_says h = rw h.0
 
-  b4-says : Holds get 0 (rec 0 (1 ∷ 2 ∷ 3 ∷ 4 ∷ 1 ∷ 2 ∷ 3 ∷ 4 ∷ 5 ∷ 6 ∷ []) (some (2 ∷ 2 ∷ 5 ∷ [])) ∷ []) → readS noFlags get 5 ≡ (told (beginE 5 false 3 0 ∷ (lines (two ∷ [] ∷ three ∷ []) 0 ++ (endE 5 false 0 ∷ []))))
-  unfolding readS rootS geometryS kindS multiLineS stretchesS ringsS linesS stretchS framed betweenS coordsS pairS ◌⨟◌
-  b4-says h = rw h.0
+  b4_says : Holds get 0 (rec 0 (1 ∷ 2 ∷ 3 ∷ 4 ∷ 1 ∷ 2 ∷ 3 ∷ 4 ∷ 5 ∷ 6 ∷ []) (some (2 ∷ 2 ∷ 5 ∷ [])) ∷ []) → read_s no_flags get 5 ≡ (told (begin_e 5 false 3 0 ∷ (lines (two ∷ [] ∷ three ∷ []) 0 ++ (end_e 5 false 0 ∷ []))))
+  unfolding read_s root_s geometry_s kind_s multi_line_s stretches_s rings_s lines_s stretch_s framed between_s coords_s pair_s ◌⨟◌
+  b4_says h = rw h.0
 
-  b5-says : Holds get 0 (rec 0 (1 ∷ 2 ∷ 3 ∷ 4 ∷ []) none ∷ []) → readS noFlags get 5 ≡ (told (beginE 5 false 1 0 ∷ (lines (two ∷ []) 0 ++ (endE 5 false 0 ∷ []))))
-  unfolding readS rootS geometryS kindS multiLineS stretchesS ringsS flatS flatO framed coordsS pairS ◌⨟◌
-  b5-says h = rw h.0
+  b5_says : Holds get 0 (rec 0 (1 ∷ 2 ∷ 3 ∷ 4 ∷ []) none ∷ []) → read_s no_flags get 5 ≡ (told (begin_e 5 false 1 0 ∷ (lines (two ∷ []) 0 ++ (end_e 5 false 0 ∷ []))))
+  unfolding read_s root_s geometry_s kind_s multi_line_s stretches_s rings_s flat_s flat_o framed coords_s pair_s ◌⨟◌
+  b5_says h = rw h.0
 
-  b7-says : Holds get 0 (rec 0 [] none ∷ []) → readS noFlags get 6 ≡ (stop 2)
-  unfolding readS rootS geometryS kindS spanS
-  b7-says h = rw h.0
+  b7_says : Holds get 0 (rec 0 [] none ∷ []) → read_s no_flags get 6 ≡ (stop 2)
+  unfolding read_s root_s geometry_s kind_s span_s
+  b7_says h = rw h.0
 
-  b8-says : Holds get 0 (root 3 2 ∷ rec 3 (1 ∷ 2 ∷ 3 ∷ 4 ∷ 5 ∷ 6 ∷ 1 ∷ 2 ∷ []) none ∷ rec 3 [] none ∷ []) → readS noFlags get 7 ≡ (told (beginE 7 false 2 0 ∷ (polygon (four ∷ []) ++ (beginE 3 true 1 1 ∷ (line false [] 0 ++ (endE 3 true 1 ∷ endE 7 false 0 ∷ []))))))
-  unfolding readS rootS geometryS kindS spanS partsS polygonS stretchesS ringsS flatS flatO framed coordsS pairS ◌⨟◌
-  b8-says h = rw (h.0, h.1.0, h.1.1.0)
+  b8_says : Holds get 0 (root 3 2 ∷ rec 3 (1 ∷ 2 ∷ 3 ∷ 4 ∷ 5 ∷ 6 ∷ 1 ∷ 2 ∷ []) none ∷ rec 3 [] none ∷ []) → read_s no_flags get 7 ≡ (told (begin_e 7 false 2 0 ∷ (polygon (four ∷ []) ++ (begin_e 3 true 1 1 ∷ (line false [] 0 ++ (end_e 3 true 1 ∷ end_e 7 false 0 ∷ []))))))
+  unfolding read_s root_s geometry_s kind_s span_s parts_s polygon_s stretches_s rings_s flat_s flat_o framed coords_s pair_s ◌⨟◌
+  b8_says h = rw (h.0, h.1.0, h.1.1.0)
 
-  b9-says : Holds get 0 (root 1 1 ∷ rec 1 (1 ∷ 2 ∷ []) none ∷ []) → readS noFlags get 0 ≡ (say (beginE 1 false 0 0) (stop 1))
-  unfolding readS rootS geometryS kindS pointS framed betweenS ◌⨟◌
-  b9-says h = rw h.0
+  b9_says : Holds get 0 (root 1 1 ∷ rec 1 (1 ∷ 2 ∷ []) none ∷ []) → read_s no_flags get 0 ≡ (say (begin_e 1 false 0 0) (stop 1))
+  unfolding read_s root_s geometry_s kind_s point_s framed between_s ◌⨟◌
+  b9_says h = rw h.0
 
 -- ---- the table
 -- B1. Polygon, one ring of 4 pairs: 8 words, no ends.
 pub b1 : Gives 3 false false (blank 1 8 1) (polygon (four ∷ [])) (rec 0 (1 ∷ 2 ∷ 3 ∷ 4 ∷ 5 ∷ 6 ∷ 1 ∷ 2 ∷ []) none ∷ []) (told (polygon (four ∷ [])))
-b1 n = (Called.b1-called n, says _ _ _ _ (b1-says _ (Called.b1-called n).1))
+b1 n = (Called.b1-called n, says _ _ _ _ (b1_says _ (Called.b1-called n).1))
 
 -- B2. Two rings of 4: ends 4, 8.
 pub b2 : Gives 3 false false (blank 1 16 2) (polygon (four ∷ four ∷ [])) (rec 0 (1 ∷ 2 ∷ 3 ∷ 4 ∷ 5 ∷ 6 ∷ 1 ∷ 2 ∷ 1 ∷ 2 ∷ 3 ∷ 4 ∷ 5 ∷ 6 ∷ 1 ∷ 2 ∷ []) (some (4 ∷ 8 ∷ [])) ∷ []) (told (polygon (four ∷ four ∷ [])))
-b2 n = (Called.b2-called n, says _ _ _ _ (b2-says _ (Called.b2-called n).1))
+b2 n = (Called.b2-called n, says _ _ _ _ (b2_says _ (Called.b2-called n).1))
 
 -- B3. No ring: empty xy; reads as one empty ring, 4 events.
 pub b3 : Gives 3 false false (blank 1 0 0) (polygon []) (rec 0 [] none ∷ []) (told (polygon ([] ∷ [])))
-b3 n = (Called.b3-called n, says _ _ _ _ (b3-says _ (Called.b3-called n).1))
+b3 n = (Called.b3-called n, says _ _ _ _ (b3_says _ (Called.b3-called n).1))
 
 -- B4. MultiLineString of 2, 0, 3 pairs: ends 2, 2, 5.
-pub b4 : Gives 5 false false (blank 1 10 3) (beginE 5 false 3 0 ∷ (lines (two ∷ [] ∷ three ∷ []) 0 ++ (endE 5 false 0 ∷ []))) (rec 0 (1 ∷ 2 ∷ 3 ∷ 4 ∷ 1 ∷ 2 ∷ 3 ∷ 4 ∷ 5 ∷ 6 ∷ []) (some (2 ∷ 2 ∷ 5 ∷ [])) ∷ []) (told (beginE 5 false 3 0 ∷ (lines (two ∷ [] ∷ three ∷ []) 0 ++ (endE 5 false 0 ∷ []))))
-b4 n = (Called.b4-called n, says _ _ _ _ (b4-says _ (Called.b4-called n).1))
+pub b4 : Gives 5 false false (blank 1 10 3) (begin_e 5 false 3 0 ∷ (lines (two ∷ [] ∷ three ∷ []) 0 ++ (end_e 5 false 0 ∷ []))) (rec 0 (1 ∷ 2 ∷ 3 ∷ 4 ∷ 1 ∷ 2 ∷ 3 ∷ 4 ∷ 5 ∷ 6 ∷ []) (some (2 ∷ 2 ∷ 5 ∷ [])) ∷ []) (told (begin_e 5 false 3 0 ∷ (lines (two ∷ [] ∷ three ∷ []) 0 ++ (end_e 5 false 0 ∷ []))))
+b4 n = (Called.b4-called n, says _ _ _ _ (b4_says _ (Called.b4-called n).1))
 
 -- B5. Declared MultiLineString, tagged LineString of 2 pairs, promote: no ends, reads as one line.
-pub b5 : Gives 5 false true (blank 1 4 1) (line true two 0) (rec 0 (1 ∷ 2 ∷ 3 ∷ 4 ∷ []) none ∷ []) (told (beginE 5 false 1 0 ∷ (lines (two ∷ []) 0 ++ (endE 5 false 0 ∷ []))))
-b5 n = (Called.b5-called n, says _ _ _ _ (b5-says _ (Called.b5-called n).1))
+pub b5 : Gives 5 false true (blank 1 4 1) (line true two 0) (rec 0 (1 ∷ 2 ∷ 3 ∷ 4 ∷ []) none ∷ []) (told (begin_e 5 false 1 0 ∷ (lines (two ∷ []) 0 ++ (end_e 5 false 0 ∷ []))))
+b5 n = (Called.b5-called n, says _ _ _ _ (b5_says _ (Called.b5-called n).1))
 
 -- B6. Without promote: 5, on any memory.
-pub b6 : (n : ℕ) (k : Mem) → (eventCall (started 5 false false) k ((events n).bytes (beginE 2 true 2 0))).wrote.number ≡ 5
+pub b6 : (n : ℕ) (k : Mem) → (event_call (started 5 false false) k ((events n).bytes (begin_e 2 true 2 0))).wrote.number ≡ 5
 b6 = Called.b6-called
 
 -- B7. MultiPolygon, no polygon: empty xy, no parts; reads 2, no event.
-pub b7 : Gives 6 false false (blank 1 0 0) (beginE 6 false 0 0 ∷ endE 6 false 0 ∷ []) (rec 0 [] none ∷ []) (stop 2)
-b7 n = (Called.b7-called n, says _ _ _ _ (b7-says _ (Called.b7-called n).1))
+pub b7 : Gives 6 false false (blank 1 0 0) (begin_e 6 false 0 0 ∷ end_e 6 false 0 ∷ []) (rec 0 [] none ∷ []) (stop 2)
+b7 n = (Called.b7-called n, says _ _ _ _ (b7_says _ (Called.b7-called n).1))
 
 -- B8. Declared GeometryCollection with a Polygon of one 4-pair ring: a root of type 3 over two parts of type 3, with 4 pairs and none.
-pub b8 : Gives 7 false false (blank 3 8 1) (beginE 7 false 1 0 ∷ (polygon (four ∷ []) ++ (endE 7 false 0 ∷ []))) (root 3 2 ∷ rec 3 (1 ∷ 2 ∷ 3 ∷ 4 ∷ 5 ∷ 6 ∷ 1 ∷ 2 ∷ []) none ∷ rec 3 [] none ∷ []) (told (beginE 7 false 2 0 ∷ (polygon (four ∷ []) ++ (beginE 3 true 1 1 ∷ (line false [] 0 ++ (endE 3 true 1 ∷ endE 7 false 0 ∷ []))))))
-b8 n = (Called.b8-called n, says _ _ _ _ (b8-says _ (Called.b8-called n).1))
+pub b8 : Gives 7 false false (blank 3 8 1) (begin_e 7 false 1 0 ∷ (polygon (four ∷ []) ++ (end_e 7 false 0 ∷ []))) (root 3 2 ∷ rec 3 (1 ∷ 2 ∷ 3 ∷ 4 ∷ 5 ∷ 6 ∷ 1 ∷ 2 ∷ []) none ∷ rec 3 [] none ∷ []) (told (begin_e 7 false 2 0 ∷ (polygon (four ∷ []) ++ (begin_e 3 true 1 1 ∷ (line false [] 0 ++ (end_e 3 true 1 ∷ end_e 7 false 0 ∷ []))))))
+b8 n = (Called.b8-called n, says _ _ _ _ (b8_says _ (Called.b8-called n).1))
 
 -- B9. Unknown, no detect, no promote, a collection of one Point: root type 1; reads point_begin, then 1.
-pub b9 : Gives 0 false false (blank 2 2 0) (beginE 7 false 1 0 ∷ beginE 1 false 0 0 ∷ xyE 1 2 0 ∷ endE 1 false 0 ∷ endE 7 false 0 ∷ []) (root 1 1 ∷ rec 1 (1 ∷ 2 ∷ []) none ∷ []) (say (beginE 1 false 0 0) (stop 1))
-b9 n = (Called.b9-called n, says _ _ _ _ (b9-says _ (Called.b9-called n).1))
+pub b9 : Gives 0 false false (blank 2 2 0) (begin_e 7 false 1 0 ∷ begin_e 1 false 0 0 ∷ xy_e 1 2 0 ∷ end_e 1 false 0 ∷ end_e 7 false 0 ∷ []) (root 1 1 ∷ rec 1 (1 ∷ 2 ∷ []) none ∷ []) (say (begin_e 1 false 0 0) (stop 1))
+b9 n = (Called.b9-called n, says _ _ _ _ (b9_says _ (Called.b9-called n).1))
 
 -- ---- B10 and B11: a table of one record, from its bytes
-abbrev noPair : List ℕ
-noPair = 1 ∷ 1 ∷ replicate 62 0
+abbrev no_pair : List ℕ
+no_pair = 1 ∷ 1 ∷ replicate 62 0
 
 abbrev falling : List ℕ
 falling = 5 ∷ 3 ∷ 0 ∷ 0 ∷ 0 ∷ 0 ∷ 0 ∷ 0 ∷ 6 ∷ 0 ∷ 0 ∷ 0 ∷ 0 ∷ 0 ∷ 0 ∷ 0 ∷ 2 ∷ 0 ∷ 0 ∷ 0 ∷ replicate 44 0
 
 -- B10. Point without a pair: point_begin, then 7.
-pub b10 : Says noPair (poolsOf [] [] [] [] [] []) 1 (say (beginE 1 false 0 0) (stop 7))
-unfolding readS rootS geometryS kindS pointS framed betweenS coordsS ◌⨟◌ recordWith recordAt hasRecord recordIn listsIn readGeometry soundGeometry geometryOf
+pub b10 : Says no_pair (pools_of [] [] [] [] [] []) 1 (say (begin_e 1 false 0 0) (stop 7))
+unfolding read_s root_s geometry_s kind_s point_s framed between_s coords_s ◌⨟◌ record_with record_at has_record record_in lists_in read_geometry sound_geometry geometry_of
 b10 = says _ _ _ _ refl
 
 -- B11. MultiLineString, 6 words, ends 3, 2: six events, then 8.
-pub b11 : Says falling (poolsOf (10 ∷ 11 ∷ 12 ∷ 13 ∷ 14 ∷ 15 ∷ []) (3 ∷ 2 ∷ []) [] [] [] []) 5
-    (say (beginE 5 false 2 0) (say (beginE 2 false 3 0) (say (xyE 10 11 0) (say (xyE 12 13 1) (say (xyE 14 15 2) (say (endE 2 false 0) (stop 8)))))))
-unfolding readS rootS geometryS kindS multiLineS stretchesS ringsS linesS stretchS framed betweenS coordsS pairS ◌⨟◌ recordWith recordAt hasRecord recordIn listsIn readGeometry soundGeometry geometryOf
+pub b11 : Says falling (pools_of (10 ∷ 11 ∷ 12 ∷ 13 ∷ 14 ∷ 15 ∷ []) (3 ∷ 2 ∷ []) [] [] [] []) 5
+    (say (begin_e 5 false 2 0) (say (begin_e 2 false 3 0) (say (xy_e 10 11 0) (say (xy_e 12 13 1) (say (xy_e 14 15 2) (say (end_e 2 false 0) (stop 8)))))))
+unfolding read_s root_s geometry_s kind_s multi_line_s stretches_s rings_s lines_s stretch_s framed between_s coords_s pair_s ◌⨟◌ record_with record_at has_record record_in lists_in read_geometry sound_geometry geometry_of
 b11 = says _ _ _ _ refl
 
 -- ---- B12 to B14: property bytes, read to a log of one record and four bytes that stay as they are

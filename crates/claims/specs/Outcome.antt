@@ -2,38 +2,38 @@
 use Rattle.std.specs.Prelude.{◌≡◌, Bool, List, ◌++◌, ℕ, ◌*◌, take, drop}
 use Rattle.std.proofs.Common.{sym, ap, ◌∙◌}
 use Rattle.laws.specs.Script.{Script, out, Format, run}
-use Rattle.laws.specs.Cut.{recordsOf, roomOf, bytes_of, Said}
+use Rattle.laws.specs.Cut.{records_of, room_of, bytes_of, Said}
 use Rattle.kinds.specs.declared.flags.Flags.{Flags}
-use Rattle.store.specs.Lists.{Pools, recordWith}
+use Rattle.store.specs.Lists.{Pools, record_with}
 use Rattle.log.specs.Log.{events}
 use Rattle.record_box.specs.declared.Boxed.{Boxed}
-use Rattle.record_box.specs.Boxed.{boxOf}
-use Rattle.reader.specs.Reading.{readS}
-use Rattle.wkb_reader.specs.Reading.{readingR}
+use Rattle.record_box.specs.Boxed.{box_of}
+use Rattle.reader.specs.Reading.{read_s}
+use Rattle.wkb_reader.specs.Reading.{reading_r}
 use Rattle.wkb_written.specs.Writing.{Written, Did}
-use Rattle.property_writer.specs.Writing.{bytesAfter}
+use Rattle.property_writer.specs.Writing.{bytes_after}
 use Rattle.property_value.specs.Value.{placed}
-use Rattle.property_reader.specs.Reading.{reading, badIn, stopped}
+use Rattle.property_reader.specs.Reading.{reading, bad_in, stopped}
 use Rattle.log.specs.Values.{values}
 use Rattle.runs.specs.declared.took.Took.{Took}
 use Rattle.writing.specs.declared.state.State.{State}
 use Rattle.writing.specs.declared.state.Wrote.{Wrote}
 use Rattle.writing.specs.State.{Mem, mem_of, outcome, Outcome}
-use Rattle.writing.specs.Calls.{started, eventCall, finishCall, nextCall}
-use Rattle.runs.specs.Events.{Progress, progress, eventsCall}
-use Rattle.writer.specs.Property.{propertyCall, propertyPlace}
+use Rattle.writing.specs.Calls.{started, event_call, finish_call, next_call}
+use Rattle.runs.specs.Events.{Progress, progress, events_call}
+use Rattle.writer.specs.Property.{property_call, property_place}
 use Rattle.bintolage.specs.Calls.{Kept, kept, Taken, taken}
 
 -- ---- a log: its bytes, and the answer's number and count
-pub said-once : {A : Type 0} (F : Format A) (s : Script A) (L : List ℕ) (number number' count count' : ℕ) (M M' : List ℕ)
+pub said_once : {A : Type 0} (F : Format A) (s : Script A) (L : List ℕ) (number number' count count' : ℕ) (M M' : List ℕ)
     → Said F s L number count M → Said F s L number' count' M' → (number ≡ number') × (count ≡ count') × (M ≡ M')
-said-once F s L number number' count count' M M' h k =
+said_once F s L number number' count count' M M' h k =
     let c : count ≡ count' = h.count-is ∙ sym k.count-is in
-    (h.number_is ∙ sym k.number_is, c, h.log_is ∙ ap (λ (n : ℕ). bytes_of F (take (roomOf F.wide L) (recordsOf s)) ++ drop (F.wide * n) L) c ∙ sym k.log_is)
+    (h.number_is ∙ sym k.number_is, c, h.log_is ∙ ap (λ (n : ℕ). bytes_of F (take (room_of F.wide L) (records_of s)) ++ drop (F.wide * n) L) c ∙ sym k.log_is)
 
-ran-once : {A : Type 0} (F : Format A) (s : Script A) (L : List ℕ) (number number' count count' : ℕ) (M M' : List ℕ)
+ran_once : {A : Type 0} (F : Format A) (s : Script A) (L : List ℕ) (number number' count count' : ℕ) (M M' : List ℕ)
     → run F s L 0 ≡ out number count M → run F s L 0 ≡ out number' count' M' → (number ≡ number') × (count ≡ count') × (M ≡ M')
-ran-once F s L number number' count count' M M' h k = let e = sym h ∙ k in (cc, cc, cc)
+ran_once F s L number number' count count' M M' h k = let e = sym h ∙ k in (cc, cc, cc)
 
 -- ---- a writing call: number, state, and the seven lent slices
 module _ (r r' : Wrote) (table table' xy xy' ends ends' z z' m m' t t' tm tm' : List ℕ) where
@@ -58,20 +58,20 @@ module _ (r r' : Wrote) (table table' xy xy' ends ends' z z' m m' t t' tm tm' : 
     ap (λ (o : Outcome). o.mem.pools.tm) e,
   )
 
-  pub event-once : (s : State) (k : Mem) (bytes : List ℕ) → left ≡ eventCall s k bytes → left' ≡ eventCall s k bytes → Same
-  event-once s k bytes h h' = same (h ∙ sym h')
+  pub event_once : (s : State) (k : Mem) (bytes : List ℕ) → left ≡ event_call s k bytes → left' ≡ event_call s k bytes → Same
+  event_once s k bytes h h' = same (h ∙ sym h')
 
-  pub finish-once : (s : State) (k : Mem) → left ≡ finishCall s k → left' ≡ finishCall s k → Same
-  finish-once s k h h' = same (h ∙ sym h')
+  pub finish_once : (s : State) (k : Mem) → left ≡ finish_call s k → left' ≡ finish_call s k → Same
+  finish_once s k h h' = same (h ∙ sym h')
 
-  pub next-once : (s : State) (k : Mem) → left ≡ nextCall s k → left' ≡ nextCall s k → Same
-  next-once s k h h' = same (h ∙ sym h')
+  pub next_once : (s : State) (k : Mem) → left ≡ next_call s k → left' ≡ next_call s k → Same
+  next_once s k h h' = same (h ∙ sym h')
 
 -- ---- events: how many were taken, too
 module _ (r r' : Took) (table table' xy xy' ends ends' z z' m m' t t' tm tm' : List ℕ) where
-  pub events-once : (s : State) (k : Mem) (bytes : List ℕ) → progress r (mem_of table xy ends z m t tm) ≡ eventsCall s k bytes → progress r' (mem_of table' xy' ends' z' m' t' tm') ≡ eventsCall s k bytes
+  pub events_once : (s : State) (k : Mem) (bytes : List ℕ) → progress r (mem_of table xy ends z m t tm) ≡ events_call s k bytes → progress r' (mem_of table' xy' ends' z' m' t' tm') ≡ events_call s k bytes
       → (r ≡ r') × (table ≡ table') × (xy ≡ xy') × (ends ≡ ends') × (z ≡ z') × (m ≡ m') × (t ≡ t') × (tm ≡ tm')
-  events-once s k bytes h h' =
+  events_once s k bytes h h' =
       let e : progress r (mem_of table xy ends z m t tm) ≡ progress r' (mem_of table' xy' ends' z' m' t' tm') = h ∙ sym h' in (
         ap (λ (p : Progress). p.took) e,
         ap (λ (p : Progress). p.mem.table) e,
@@ -83,51 +83,51 @@ module _ (r r' : Took) (table table' xy xy' ends ends' z z' m m' t t' tm tm' : L
         ap (λ (p : Progress). p.mem.pools.tm) e,
       )
 
-pub start-once : (declared : ℕ) (detect promote : Bool) (s s' : State) → s ≡ started declared detect promote → s' ≡ started declared detect promote → s ≡ s'
-start-once declared detect promote s s' h h' = h ∙ sym h'
+pub start_once : (declared : ℕ) (detect promote : Bool) (s s' : State) → s ≡ started declared detect promote → s' ≡ started declared detect promote → s ≡ s'
+start_once declared detect promote s s' h h' = h ∙ sym h'
 
-pub property-once : (s : State) (column kind bits : ℕ) (text buffer : List ℕ) (r r' : Wrote) (after after' : List ℕ) (place place' : ℕ)
-    → r ≡ propertyCall s column kind bits text buffer → after ≡ bytesAfter s.waiting s.properties column kind bits text buffer → place ≡ propertyPlace s column kind bits text buffer
-    → r' ≡ propertyCall s column kind bits text buffer → after' ≡ bytesAfter s.waiting s.properties column kind bits text buffer → place' ≡ propertyPlace s column kind bits text buffer
+pub property_once : (s : State) (column kind bits : ℕ) (text buffer : List ℕ) (r r' : Wrote) (after after' : List ℕ) (place place' : ℕ)
+    → r ≡ property_call s column kind bits text buffer → after ≡ bytes_after s.waiting s.properties column kind bits text buffer → place ≡ property_place s column kind bits text buffer
+    → r' ≡ property_call s column kind bits text buffer → after' ≡ bytes_after s.waiting s.properties column kind bits text buffer → place' ≡ property_place s column kind bits text buffer
     → (r ≡ r') × (after ≡ after') × (place ≡ place')
-property-once s column kind bits text buffer r r' after after' place place' h k l h' k' l' = (h ∙ sym h', k ∙ sym k', l ∙ sym l')
+property_once s column kind bits text buffer r r' after after' place place' h k l h' k' l' = (h ∙ sym h', k ∙ sym k', l ∙ sym l')
 
 -- ---- the readers
 module _ (number number' count count' : ℕ) (log log' : List ℕ) where
-  pub read-once : (F : Flags) (feature : ℕ) (table : List ℕ) (P : Pools) (declared : ℕ) (L : List ℕ)
-      → Said (events feature) (readS F (recordWith table P) declared) L number count log → Said (events feature) (readS F (recordWith table P) declared) L number' count' log'
+  pub read_once : (F : Flags) (feature : ℕ) (table : List ℕ) (P : Pools) (declared : ℕ) (L : List ℕ)
+      → Said (events feature) (read_s F (record_with table P) declared) L number count log → Said (events feature) (read_s F (record_with table P) declared) L number' count' log'
       → (number ≡ number') × (count ≡ count') × (log ≡ log')
-  read-once F feature table P declared L = said-once (events feature) (readS F (recordWith table P) declared) L number number' count count' log log'
+  read_once F feature table P declared L = said_once (events feature) (read_s F (record_with table P) declared) L number number' count count' log log'
 
-  pub read-wkb-once : (feature : ℕ) (bytes L : List ℕ)
-      → Said (events feature) (readingR bytes) L number count log → Said (events feature) (readingR bytes) L number' count' log'
+  pub read_wkb_once : (feature : ℕ) (bytes L : List ℕ)
+      → Said (events feature) (reading_r bytes) L number count log → Said (events feature) (reading_r bytes) L number' count' log'
       → (number ≡ number') × (count ≡ count') × (log ≡ log')
-  read-wkb-once feature bytes L = said-once (events feature) (readingR bytes) L number number' count count' log log'
+  read_wkb_once feature bytes L = said_once (events feature) (reading_r bytes) L number number' count count' log log'
 
-  pub read-properties-once : (bytes : List ℕ) (has-columns : Bool) (columns : List ℕ) (stop : ℕ) (L : List ℕ) (at at' : Bool) (place place' : ℕ)
-      → run values (reading bytes has-columns columns stop) L 0 ≡ out number count log → at ≡ stopped stop (reading bytes has-columns columns stop) number → place ≡ placed number (badIn bytes has-columns columns stop)
-      → run values (reading bytes has-columns columns stop) L 0 ≡ out number' count' log' → at' ≡ stopped stop (reading bytes has-columns columns stop) number' → place' ≡ placed number' (badIn bytes has-columns columns stop)
+  pub read_properties_once : (bytes : List ℕ) (has-columns : Bool) (columns : List ℕ) (stop : ℕ) (L : List ℕ) (at at' : Bool) (place place' : ℕ)
+      → run values (reading bytes has-columns columns stop) L 0 ≡ out number count log → at ≡ stopped stop (reading bytes has-columns columns stop) number → place ≡ placed number (bad_in bytes has-columns columns stop)
+      → run values (reading bytes has-columns columns stop) L 0 ≡ out number' count' log' → at' ≡ stopped stop (reading bytes has-columns columns stop) number' → place' ≡ placed number' (bad_in bytes has-columns columns stop)
       → (number ≡ number') × (count ≡ count') × (log ≡ log') × (at ≡ at') × (place ≡ place')
-  read-properties-once bytes has-columns columns stop L at at' place place' h k l h' k' l' =
-      let o = ran-once values (reading bytes has-columns columns stop) L number number' count count' log log' h h' in
-      (o.0, o.1, o.2, k ∙ ap (stopped stop (reading bytes has-columns columns stop)) o.0 ∙ sym k', l ∙ ap (λ (n : ℕ). placed n (badIn bytes has-columns columns stop)) o.0 ∙ sym l')
+  read_properties_once bytes has-columns columns stop L at at' place place' h k l h' k' l' =
+      let o = ran_once values (reading bytes has-columns columns stop) L number number' count count' log log' h h' in
+      (o.0, o.1, o.2, k ∙ ap (stopped stop (reading bytes has-columns columns stop)) o.0 ∙ sym k', l ∙ ap (λ (n : ℕ). placed n (bad_in bytes has-columns columns stop)) o.0 ∙ sym l')
 
 -- ---- well-known binary written: the answer, how many bytes, and the buffer
-pub write-wkb-once : (w : Written) (room : List ℕ) (number number' long long' : ℕ) (after after' : List ℕ)
+pub write_wkb_once : (w : Written) (room : List ℕ) (number number' long long' : ℕ) (after after' : List ℕ)
     → Did w room number long after → Did w room number' long' after' → (number ≡ number') × (long ≡ long') × (after ≡ after')
-write-wkb-once w room number number' long long' after after' h k = (h.number_is ∙ sym k.number_is, h.long-is ∙ sym k.long-is, h.laid ∙ sym k.laid)
+write_wkb_once w room number number' long long' after after' h k = (h.number_is ∙ sym k.number_is, h.long_is ∙ sym k.long_is, h.laid ∙ sym k.laid)
 
-pub box-once : (table : List ℕ) (P : Pools) (n : ℕ) (b b' : Boxed) → b ≡ boxOf (recordWith table P) n → b' ≡ boxOf (recordWith table P) n → b ≡ b'
-box-once table P n b b' h h' = h ∙ sym h'
+pub box_once : (table : List ℕ) (P : Pools) (n : ℕ) (b b' : Boxed) → b ≡ box_of (record_with table P) n → b' ≡ box_of (record_with table P) n → b ≡ b'
+box_once table P n b b' h h' = h ∙ sym h'
 
--- ---- the exported calls: the writing ones keep the state as words; read and read_properties say what the inner calls say (`said-once`), and the others' contracts are equations
-pub kept-once : (number number' : ℕ) (words words' : List ℕ) (mem mem' : Mem) (o : Kept) → kept number words mem ≡ o → kept number' words' mem' ≡ o → (number ≡ number') × (words ≡ words') × (mem ≡ mem')
-kept-once number number' words words' mem mem' o h h' =
+-- ---- the exported calls: the writing ones keep the state as words; read and read_properties say what the inner calls say (`said_once`), and the others' contracts are equations
+pub kept_once : (number number' : ℕ) (words words' : List ℕ) (mem mem' : Mem) (o : Kept) → kept number words mem ≡ o → kept number' words' mem' ≡ o → (number ≡ number') × (words ≡ words') × (mem ≡ mem')
+kept_once number number' words words' mem mem' o h h' =
     let e = h ∙ sym h' in
     (ap (λ (k : Kept). k.number) e, ap (λ (k : Kept). k.words) e, ap (λ (k : Kept). k.mem) e)
 
-pub taken-once : (number number' count count' : ℕ) (words words' : List ℕ) (mem mem' : Mem) (o : Taken) → taken number count words mem ≡ o → taken number' count' words' mem' ≡ o
+pub taken_once : (number number' count count' : ℕ) (words words' : List ℕ) (mem mem' : Mem) (o : Taken) → taken number count words mem ≡ o → taken number' count' words' mem' ≡ o
     → (number ≡ number') × (count ≡ count') × (words ≡ words') × (mem ≡ mem')
-taken-once number number' count count' words words' mem mem' o h h' =
+taken_once number number' count count' words words' mem mem' o h h' =
     let e = h ∙ sym h' in
     (ap (λ (k : Taken). k.number) e, ap (λ (k : Taken). k.taken) e, ap (λ (k : Taken). k.words) e, ap (λ (k : Taken). k.mem) e)

@@ -8,8 +8,8 @@ Exactly b P = (b ≡ true → P) × (P → b ≡ true)
 
 -- Two rows begin with so many bytes in common, and part there, or one of them ends.
 pub record Common (a b : List ℕ) (n : ℕ) : Type 0 where
-  pub in-first : n ≤ length a
-  pub in-second : n ≤ length b
+  pub in_first : n ≤ length a
+  pub in_second : n ≤ length b
   pub agree : take n a ≡ take n b
   pub part : n < length a → n < length b → get_or a n 0 ≡ get_or b n 0 → ⊥
 

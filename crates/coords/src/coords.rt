@@ -2,10 +2,10 @@
 ghost use Rattle.std.specs.Prelude.{◌≡◌, ◌+◌, ◌-◌, ◌≤◌, ◌<◌, length};
 ghost use Rattle.laws.specs.Script.{out, run};
 ghost use Rattle.laws.specs.Framed.{framed};
-ghost use Rattle.kinds.specs.Event.{beginE, endE};
+ghost use Rattle.kinds.specs.Event.{begin_e, end_e};
 ghost use Rattle.log.specs.Log.{events};
-ghost use Rattle.coords.specs.Coords.{coordsS, dropped};
-ghost use Rattle.coords.specs.Seen.{lanes_in, windowS};
+ghost use Rattle.coords.specs.Coords.{coords_s, dropped};
+ghost use Rattle.coords.specs.Seen.{lanes_in, window_s};
 
 use crate::pairs::{Pair, Seen, read_pair};
 use crate::window::Window;
@@ -37,7 +37,7 @@ fn read_coords(
 ) -> Answer
     requires { (length xy.now ≤ 131072) × (from < 4294967296) }
     ensures { let L = lanes_in seen z.now m.now t.now tm.now in
-        run (events feature) (coordsS seen.many (dropped from L) xy.now 0 last)
+        run (events feature) (coords_s seen.many (dropped from L) xy.now 0 last)
         log.old count ≡ out result.number result.count log.new }
 {
     let mut said = count;
@@ -86,8 +86,8 @@ pub fn read_window(
     f: Frame,
 ) -> Answer
     requires { (length xy.now ≤ 131072) × (w.start ≤ w.end) × (w.end ≤ length xy.now) × (w.from < 4294967296) × (f.kind < 32) }
-    ensures { let W = windowS seen xy.now z.now m.now t.now tm.now w in
-        run (events feature) (framed (beginE f.kind f.tagged f.size f.idx) W (endE f.kind f.tagged f.idx))
+    ensures { let W = window_s seen xy.now z.now m.now t.now tm.now w in
+        run (events feature) (framed (begin_e f.kind f.tagged f.size f.idx) W (end_e f.kind f.tagged f.idx))
         log.old count ≡ out result.number result.count log.new }
 {
     let b = log::say(

@@ -3,8 +3,8 @@ ghost use Rattle.std.specs.Prelude.{◌≡◌, cond, ◌≤◌};
 ghost use Rattle.laws.specs.Script.{Script};
 ghost use Rattle.kinds.specs.declared.event.Event.{Event as E};
 ghost use Rattle.geometries.specs.Coordinate.{is, or0};
-ghost use Rattle.coords.specs.Coords.{head_of, dropO, dropped, coordinateS, pairS};
-ghost use Rattle.coords.specs.Seen.{isPast, value_of, when, lanes_in, told};
+ghost use Rattle.coords.specs.Coords.{head_of, drop_o, dropped, coordinate_s, pair_s};
+ghost use Rattle.coords.specs.Seen.{is_past, value_of, when, lanes_in, told};
 
 use kinds::event::Event;
 use kinds::flags::Flags;
@@ -37,7 +37,7 @@ pub struct Seen {
 
 impl Value {
     fn past(self) -> bool
-        ensures { result ≡ isPast self }
+        ensures { result ≡ is_past self }
     {
         match self {
             Value::Absent => false,
@@ -68,7 +68,7 @@ impl Value {
 }
 
 fn value_at(list: &[u64], there: bool, n: usize) -> Value
-    ensures { result ≡ head_of (dropO n (when there list.now)) }
+    ensures { result ≡ head_of (drop_o n (when there list.now)) }
 {
     if !there {
         return Value::Absent;
@@ -81,7 +81,7 @@ fn value_at(list: &[u64], there: bool, n: usize) -> Value
 }
 
 fn read_coordinate(x: u64, y: u64, z: Value, m: Value, t: Value, tm: Value, idx: u32) -> Pair
-    ensures { (k : Script E) → coordinateS z m t tm x y idx k ≡ told result k }
+    ensures { (k : Script E) → coordinate_s z m t tm x y idx k ≡ told result k }
 {
     if z.past() | m.past() | t.past() | tm.past() {
         return Pair::Short;
@@ -103,7 +103,7 @@ pub fn read_pair(
     idx: u32,
 ) -> Pair
     ensures { let L = lanes_in seen z.now m.now t.now tm.now in
-        ((k : Script E) → pairS seen.many (dropped n L) x y idx k ≡ told result k) }
+        ((k : Script E) → pair_s seen.many (dropped n L) x y idx k ≡ told result k) }
 {
     if !seen.many {
         return Pair::Whole(Event::xy(x, y, idx));

@@ -3,11 +3,11 @@ use Rattle.std.specs.Prelude.{cond, ℕ, ◌+◌, ◌*◌, ◌-◌, ◌/◌, ◌
 use Rattle.decimal.specs.declared.Decimal.{Decimal}
 use Rattle.decimal.specs.declared.Magnitude.{Magnitude}
 use Rattle.decimal.specs.declared.Magnitude.TheVariants.{Finite, Vast, Infinite, NotANumber}
-use Rattle.decimal.specs.Rounding.{halfToEven}
+use Rattle.decimal.specs.Rounding.{half_to_even}
 
 -- m · 2^(e - point) · 10^7, rounded half to even. A difference below zero is zero, so one of the two powers is 1.
-unfoldable pub tenMillionths : ℕ → ℕ → ℕ → ℕ
-tenMillionths point m e = halfToEven (m * 2 ^ (e - point) * 10000000) (2 ^ (point - e))
+unfoldable pub ten_millionths : ℕ → ℕ → ℕ → ℕ
+ten_millionths point m e = half_to_even (m * 2 ^ (e - point) * 10000000) (2 ^ (point - e))
 
 -- So many ten-millionths, as what stands before the point and behind it.
 unfoldable pub cut : ℕ → Decimal
@@ -26,12 +26,12 @@ unfoldable pub magnitude : ℕ → ℕ → ℕ → ℕ → ℕ → Magnitude
 magnitude ones implied point exponent fraction =
     cond (eqb exponent ones)
     (special fraction)
-    (cond (eqb exponent 0) (told (tenMillionths point fraction 1)) (told (tenMillionths point (fraction + implied) exponent)))
+    (cond (eqb exponent 0) (told (ten_millionths point fraction 1)) (told (ten_millionths point (fraction + implied) exponent)))
 
 -- A double has 52 bits of fraction and 11 of exponent, whose bias is 1023: at the exponent field 1075 the mantissa is a whole number.
-unfoldable pub ofDouble : ℕ → Magnitude
-ofDouble bits = magnitude 2047 (2 ^ 52) 1075 (bits % 2 ^ 63 / 2 ^ 52) (bits % 2 ^ 52)
+unfoldable pub of_double : ℕ → Magnitude
+of_double bits = magnitude 2047 (2 ^ 52) 1075 (bits % 2 ^ 63 / 2 ^ 52) (bits % 2 ^ 52)
 
 -- A float has 23 bits of fraction and 8 of exponent, whose bias is 127.
-unfoldable pub ofFloat : ℕ → Magnitude
-ofFloat bits = magnitude 255 (2 ^ 23) 150 (bits % 2 ^ 31 / 2 ^ 23) (bits % 2 ^ 23)
+unfoldable pub of_float : ℕ → Magnitude
+of_float bits = magnitude 255 (2 ^ 23) 150 (bits % 2 ^ 31 / 2 ^ 23) (bits % 2 ^ 23)

@@ -9,47 +9,47 @@ use Rattle.std.proofs.Math.Dec.{eqb}
 use Rattle.std.proofs.lemmas.Nat.{shl-shr, mod-pow-add}
 use Rattle.std.proofs.Math.Pow.{high, low}
 use Rattle.std.proofs.lemmas.Bool.{eqb-false}
-use Rattle.decimal.specs.Rounding.{goesUp, halfToEven}
+use Rattle.decimal.specs.Rounding.{goes_up, half_to_even}
 
-bit-small : (b : Bool) → cond b 1 0 ≤ 1
-bit-small true = omega arith
-bit-small false = omega arith
+bit_small : (b : Bool) → cond b 1 0 ≤ 1
+bit_small true = omega arith
+bit_small false = omega arith
 
 -- A whole number stays.
-pub whole : (n : ℕ) → halfToEven n 1 ≡ n
-unfolding halfToEven goesUp
+pub whole : (n : ℕ) → half_to_even n 1 ≡ n
+unfolding half_to_even goes_up
 whole n = rw (div-one, mod-one) (omega arith)
 
 -- What is less than half of the divisor is nothing.
-pub nothing : (n d : ℕ) → 2 * n < d → halfToEven n d ≡ 0
-unfolding halfToEven goesUp
+pub nothing : (n d : ℕ) → 2 * n < d → half_to_even n d ≡ 0
+unfolding half_to_even goes_up
 nothing n d h =
     let below : n < d = omega arith in
     rw (div-eq_of_lt below, mod-eq_of_lt below, le-ltb d (2 * n) (omega arith), ne_eqb (2 * n) d (λ e. omega arith))
 
 -- A part of ten millions is ten millions at most.
-pub at_most : (b d : ℕ) → b < d → halfToEven (b * 10000000) d ≤ 10000000
-unfolding halfToEven
+pub at_most : (b d : ℕ) → b < d → half_to_even (b * 10000000) d ≤ 10000000
+unfolding half_to_even
 at_most b d h =
     let positive : 0 < d = omega arith in
     let scaled : b * 10000000 < d * 10000000 = omega arith in
     let under : b * 10000000 / d < 10000000 = (div-lt_iff_lt-mul positive).1 (omega arith) in
-    omega (arith, bit-small (goesUp (b * 10000000) d))
+    omega (arith, bit_small (goes_up (b * 10000000) d))
 
-pub one_more : (n d : ℕ) → halfToEven n d ≤ n + 1
-unfolding halfToEven
-one_more n d = omega (arith, div-le_self n d, bit-small (goesUp n d))
+pub one_more_lem : (n d : ℕ) → half_to_even n d ≤ n + 1
+unfolding half_to_even
+one_more_lem n d = omega (arith, div-le_self n d, bit_small (goes_up n d))
 
 -- ---- a common factor is of no account
-ltb-scaled : (a b c : ℕ) → 0 < c → ltb (a * c) (b * c) ≡ ltb a b
-ltb-scaled a b c h = go (ltb a b) refl
+ltb_scaled : (a b c : ℕ) → 0 < c → ltb (a * c) (b * c) ≡ ltb a b
+ltb_scaled a b c h = go (ltb a b) refl
   where
     go : (t : Bool) → ltb a b ≡ t → ltb (a * c) (b * c) ≡ t
     go true e = lt-ltb _ _ (mul-lt-mul_of_pos_right (ltb-true a b e) h)
     go false e = le-ltb _ _ (mul-le-mul_right c (ltb-false a b e))
 
-eqb-scaled : (a b c : ℕ) → 0 < c → eqb (a * c) (b * c) ≡ eqb a b
-eqb-scaled a b c h = go (eqb a b) refl
+eqb_scaled : (a b c : ℕ) → 0 < c → eqb (a * c) (b * c) ≡ eqb a b
+eqb_scaled a b c h = go (eqb a b) refl
   where
     less : (x y : ℕ) → x * c ≡ y * c → x ≤ y
     less x y e = le_of_mul-le-mul_right {m = x} {n = y} {k = c} (omega arith) h
@@ -58,8 +58,8 @@ eqb-scaled a b c h = go (eqb a b) refl
     go true e = eq-eqb _ _ (ap (λ (n : ℕ). n * c) (eqb-true a b e))
     go false e = ne_eqb _ _ (λ same. eqb-false a b e (omega (arith, less a b same, less b a (sym same))))
 
-rest-scaled : (n d c : ℕ) → 0 < d → 0 < c → n * c % (d * c) ≡ n % d * c
-rest-scaled n d c p h =
+rest_scaled : (n d c : ℕ) → 0 < d → 0 < c → n * c % (d * c) ≡ n % d * c
+rest_scaled n d c p h =
     ap (λ (x : ℕ). x * c % (d * c)) (sym (div-add-mod' n d))
     ∙ ap (λ (x : ℕ). x % (d * c)) spread
     ∙ mul-add-mod_self_right (n / d) (d * c) (n % d * c)
@@ -68,17 +68,17 @@ rest-scaled n d c p h =
     spread : (n / d * d + n % d) * c ≡ n / d * (d * c) + n % d * c
     spread = add-mul (n / d * d) (n % d) c ∙ ap (λ (x : ℕ). x + n % d * c) (mul_assoc (n / d) d c)
 
-pub common-factor : (n d c : ℕ) → 0 < d → 0 < c → halfToEven (n * c) (d * c) ≡ halfToEven n d
-unfolding halfToEven goesUp
-common-factor n d c p h =
-    rw (mul-div-mul_right {m = c} n d h, rest-scaled n d c p h, twice, ltb-scaled d (2 * (n % d)) c h, eqb-scaled (2 * (n % d)) d c h)
+pub common_factor : (n d c : ℕ) → 0 < d → 0 < c → half_to_even (n * c) (d * c) ≡ half_to_even n d
+unfolding half_to_even goes_up
+common_factor n d c p h =
+    rw (mul-div-mul_right {m = c} n d h, rest_scaled n d c p h, twice, ltb_scaled d (2 * (n % d)) c h, eqb_scaled (2 * (n % d)) d c h)
   where
     twice : 2 * (n % d * c) ≡ 2 * (n % d) * c
     twice = sym (mul_assoc 2 (n % d) c)
 
 -- ---- a whole part may be taken out: ten millions are even
-pub apart : (a b d : ℕ) → 0 < d → halfToEven ((a * d + b) * 10000000) d ≡ a * 10000000 + halfToEven (b * 10000000) d
-unfolding halfToEven goesUp
+pub apart : (a b d : ℕ) → 0 < d → half_to_even ((a * d + b) * 10000000) d ≡ a * 10000000 + half_to_even (b * 10000000) d
+unfolding half_to_even goes_up
 apart a b d h =
     rw (
       spread,
@@ -157,20 +157,20 @@ module _ (hi lo k s : ℕ) (small : lo < 4294967296) (word : k + s ≡ 63) where
       full : 64 ≡ suc k + s
       full = omega arith
 
-  half-word : 9223372036854775808 ≡ 2 ^ k * 2 ^ s
-  half-word = ap (λ (e : ℕ). 2 ^ e) (sym word) ∙ pow-add 2 k s
+  half_word : 9223372036854775808 ≡ 2 ^ k * 2 ^ s
+  half_word = ap (λ (e : ℕ). 2 ^ e) (sym word) ∙ pow-add 2 k s
 
   more : ltb 9223372036854775808 (hi * 2 ^ s % 18446744073709551616) ≡ ltb (2 ^ k) (hi % 2 ^ suc k)
   more =
-      ap (λ (x : ℕ). ltb x (hi * 2 ^ s % 18446744073709551616)) half-word
+      ap (λ (x : ℕ). ltb x (hi * 2 ^ s % 18446744073709551616)) half_word
       ∙ ap (λ (x : ℕ). ltb (2 ^ k * 2 ^ s) x) rest
-      ∙ ltb-scaled (2 ^ k) (hi % 2 ^ suc k) (2 ^ s) (pow_pos s)
+      ∙ ltb_scaled (2 ^ k) (hi % 2 ^ suc k) (2 ^ s) (pow_pos s)
 
   just : eqb (hi * 2 ^ s % 18446744073709551616) 9223372036854775808 ≡ eqb (hi % 2 ^ suc k) (2 ^ k)
   just =
-      ap (λ (x : ℕ). eqb (hi * 2 ^ s % 18446744073709551616) x) half-word
+      ap (λ (x : ℕ). eqb (hi * 2 ^ s % 18446744073709551616) x) half_word
       ∙ ap (λ (x : ℕ). eqb x (2 ^ k * 2 ^ s)) rest
-      ∙ eqb-scaled (hi % 2 ^ suc k) (2 ^ k) (2 ^ s) (pow_pos s)
+      ∙ eqb_scaled (hi % 2 ^ suc k) (2 ^ k) (2 ^ s) (pow_pos s)
 
   tests : (b : Bool)
       → (ltb 9223372036854775808 (hi * 2 ^ s % 18446744073709551616) || (eqb (hi * 2 ^ s % 18446744073709551616) 9223372036854775808 && b))
@@ -179,12 +179,12 @@ module _ (hi lo k s : ℕ) (small : lo < 4294967296) (word : k + s ≡ 63) where
       ap (λ (t : Bool). t || (eqb (hi * 2 ^ s % 18446744073709551616) 9223372036854775808 && b)) more
       ∙ ap (λ (t : Bool). ltb (2 ^ k) (hi % 2 ^ suc k) || (t && b)) just
 
-  pub by-words : halfToEven (hi * 4294967296 + lo) (2 ^ (suc k + 32))
+  pub by-words : half_to_even (hi * 4294967296 + lo) (2 ^ (suc k + 32))
       ≡ hi / 2 ^ suc k
       + cond (ltb 9223372036854775808 (hi * 2 ^ s % 18446744073709551616)
       || (eqb (hi * 2 ^ s % 18446744073709551616) 9223372036854775808
       && (not (eqb lo 0) || eqb (hi / 2 ^ suc k % 2) 1))) 1 0
-  unfolding halfToEven goesUp
+  unfolding half_to_even goes_up
   by-words =
       rw (quotient, remainder, divisor)
       (ap (λ (b : Bool). hi / 2 ^ suc k + cond b 1 0)

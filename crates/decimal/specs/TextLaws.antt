@@ -3,11 +3,11 @@ use Rattle.std.specs.Prelude.{◌≡◌, refl, Bool, true, false, List, [], ◌�
 use Rattle.std.proofs.Common.{sym, ap, ◌∙◌, append_assoc, append-nil, mod-lt, arith, length-set, drop-cons, get_or-set_same, drop-set-lt, lt-ltb, leb-true, leb-false}
 use Rattle.std.proofs.Math.Nat.{pow-le-pow_right}
 use Rattle.std.proofs.Math.Seq.{drop-length}
-use Rattle.laws.specs.Cond.{if-so}
+use Rattle.laws.specs.Cond.{if_so}
 use Rattle.io.specs.Digits.{last_digits, hex_digit_ascii, IsDigitCount}
 
-pub glyph-of : (n : ℕ) → 48 + n % 10 ≡ hex_digit_ascii (n % 10)
-glyph-of n = if-so (87 + n % 10) (lt-ltb (n % 10) 10 (mod-lt n (omega arith))) refl
+pub glyph_of : (n : ℕ) → 48 + n % 10 ≡ hex_digit_ascii (n % 10)
+glyph_of n = if_so (87 + n % 10) (lt-ltb (n % 10) 10 (mod-lt n (omega arith))) refl
 
 -- What stands from a place on, after a store there.
 pub stored : (l : List ℕ) (i v : ℕ) → i < length l → drop i (set l i v) ≡ v ∷ drop (suc i) l
@@ -17,9 +17,9 @@ stored l i v h =
     ∙ ap (λ (x : List ℕ). v ∷ x) (drop-set-lt (suc i) l i v (omega arith))
 
 -- One digit more is laid down before those that stand.
-pub digit-more : (k n i : ℕ) (l : List ℕ) → i < length l
+pub digit_more : (k n i : ℕ) (l : List ℕ) → i < length l
     → last_digits 10 k (n / 10) ++ drop i (set l i (hex_digit_ascii (n % 10))) ≡ last_digits 10 (suc k) n ++ drop (suc i) l
-digit-more k n i l h =
+digit_more k n i l h =
     ap (λ (x : List ℕ). last_digits 10 k (n / 10) ++ x) (stored l i (hex_digit_ascii (n % 10)) h)
     ∙ sym (append_assoc (last_digits 10 k (n / 10)) (hex_digit_ascii (n % 10) ∷ []) (drop (suc i) l))
 
@@ -29,7 +29,7 @@ module _ (from i rest : ℕ) (l all : List ℕ) (so_far : last_digits 10 (i - fr
       → last_digits 10 (i - 1 - from) (rest / 10) ++ drop (i - 1) (set l (i - 1) v) ≡ all
   laid_more v more within is =
       ap (λ (x : ℕ). last_digits 10 (i - 1 - from) (rest / 10) ++ drop (i - 1) (set l (i - 1) x)) is
-      ∙ digit-more (i - 1 - from) rest (i - 1) l (omega arith)
+      ∙ digit_more (i - 1 - from) rest (i - 1) l (omega arith)
       ∙ ap (λ (x : ℕ). last_digits 10 x rest ++ drop (suc (i - 1)) l) left
       ∙ ap (λ (x : ℕ). last_digits 10 (i - from) rest ++ drop x l) here
       ∙ so_far
@@ -57,12 +57,12 @@ pub laid_out : (k w f : ℕ) (first behind before : List ℕ) → k ≤ 20 → l
     → drop (21 - k) before ≡ last_digits 10 k w ++ 46 ∷ last_digits 10 7 f
 laid_out k w f first behind before few sized same fraction laid =
     laid
-    ∙ ap (λ (x : ℕ). last_digits 10 x w ++ drop 21 (set behind 21 46)) so-many
+    ∙ ap (λ (x : ℕ). last_digits 10 x w ++ drop 21 (set behind 21 46)) so_many
     ∙ ap (λ (x : List ℕ). last_digits 10 k w ++ x) (stored behind 21 46 (omega arith))
     ∙ ap (λ (x : List ℕ). last_digits 10 k w ++ 46 ∷ x) (fraction ∙ ap (λ (x : List ℕ). last_digits 10 7 f ++ x) end ∙ append-nil (last_digits 10 7 f))
   where
-    so-many : 21 - (21 - k) ≡ k
-    so-many = omega arith
+    so_many : 21 - (21 - k) ≡ k
+    so_many = omega arith
 
     end : drop 29 first ≡ []
     end = ap (λ (x : ℕ). drop x first) (sym sized) ∙ drop-length first
@@ -75,8 +75,8 @@ put-before l i v h g = stored l (i - 1) v (omega arith) ∙ ap (λ (x : ℕ). v 
     here = omega arith
 
 -- A word has twenty digits at most.
-pub few-places : (n k : ℕ) → n < 2 ^ 64 → IsDigitCount 10 1 n k → k ≤ 20
-few-places n k h fewest = go (leb k 20) refl
+pub few_places : (n k : ℕ) → n < 2 ^ 64 → IsDigitCount 10 1 n k → k ≤ 20
+few_places n k h fewest = go (leb k 20) refl
   where
     go : (b : Bool) → leb k 20 ≡ b → k ≤ 20
     go true e = leb-true k 20 e

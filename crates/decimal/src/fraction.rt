@@ -1,6 +1,6 @@
 // A fraction of a power of two, in ten-millionths.
 ghost use Rattle.std.specs.Prelude.{◌≡◌, ◌&&◌, ◌||◌, ltb, eqb, ◌+◌, ◌*◌, ◌%◌, ◌≤◌, ◌<◌, ◌^◌};
-ghost use Rattle.decimal.specs.Rounding.{halfToEven};
+ghost use Rattle.decimal.specs.Rounding.{half_to_even};
 
 const ONE: u64 = 10000000;
 
@@ -35,7 +35,7 @@ fn goes_up(quotient: u64, rest: u64, more: bool) -> bool
 // n divided by 2 to the power `bits`.
 pub fn ten_millionths(n: u64, bits: u64) -> u64
     requires { 64 ≤ bits }
-    ensures { result ≡ halfToEven (n * 10000000) (2 ^ bits) }
+    ensures { result ≡ half_to_even (n * 10000000) (2 ^ bits) }
 {
     if bits > 95 {
         return 0;

@@ -4,7 +4,7 @@ mod fraction;
 mod text;
 
 ghost use Rattle.std.specs.Prelude.{◌≡◌, leb, ◌^◌};
-ghost use Rattle.decimal.specs.Magnitude.{special as Special, ofDouble, ofFloat};
+ghost use Rattle.decimal.specs.Magnitude.{special as Special, of_double, of_float};
 
 use finite::finite;
 pub use text::{TEXT_BYTES, spell};
@@ -69,7 +69,7 @@ fn special(fraction: u64) -> Magnitude
 }
 
 pub fn of_double(bits: u64) -> Magnitude
-    ensures { result ≡ ofDouble bits }
+    ensures { result ≡ of_double bits }
 {
     let exponent = bits % DOUBLE_SIGN / DOUBLE_IMPLIED;
     let fraction = bits % DOUBLE_IMPLIED;
@@ -83,7 +83,7 @@ pub fn of_double(bits: u64) -> Magnitude
 }
 
 pub fn of_float(bits: u32) -> Magnitude
-    ensures { result ≡ ofFloat bits }
+    ensures { result ≡ of_float bits }
 {
     let exponent = bits % FLOAT_SIGN / FLOAT_IMPLIED;
     let fraction = bits % FLOAT_IMPLIED;

@@ -3,5 +3,5 @@ use Rattle.std.specs.Prelude.{List, [], ◌∷◌, ◌++◌, ℕ}
 use Rattle.laws.specs.Bytes.{le}
 use Rattle.kinds.specs.declared.value.Value.{Value}
 
-unfoldable pub valueBytes : Value → List ℕ
-valueBytes v = le 2 v.column ++ (v.kind ∷ 0 ∷ []) ++ le 4 v.len ++ le 8 v.word
+unfoldable pub value_bytes : Value → List ℕ
+value_bytes v = le 2 v.column ++ (v.kind ∷ 0 ∷ []) ++ le 4 v.len ++ le 8 v.word

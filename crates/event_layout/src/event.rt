@@ -1,8 +1,8 @@
 // The 64-byte event record.
 ghost use Rattle.std.specs.Prelude.{◌≡◌, true, length};
 ghost use Rattle.std.proofs.lemmas.List.Edits.{sets};
-ghost use Rattle.kinds.specs.Event.{toldApart, BareOf, isEvent, OwnPair};
-ghost use Rattle.event_layout.specs.Event.{bit, doubleBytes, eventBytes, eventOf, featureOf, spareZero, readEvent};
+ghost use Rattle.kinds.specs.Event.{told_apart, BareOf, is_event, OwnPair};
+ghost use Rattle.event_layout.specs.Event.{bit, double_bytes, event_bytes, event_of, feature_of, spare_zero, read_event};
 
 use crate::head::{put_first, put_two};
 use kinds::event::{Bare, Event, Heard, Uses};
@@ -19,7 +19,7 @@ fn byte_of(on: bool) -> u8
 
 fn put_doubles(bytes: &mut [u8], e: Event)
     requires { length bytes.old ≡ 64 }
-    ensures { bytes.new ≡ sets bytes.old 16 (doubleBytes e) }
+    ensures { bytes.new ≡ sets bytes.old 16 (double_bytes e) }
 {
     put_u64(bytes, 16, e.x);
     put_u64(bytes, 24, e.y);
@@ -32,7 +32,7 @@ fn put_doubles(bytes: &mut [u8], e: Event)
 // Lays an event down, with the number of its feature.
 pub fn put_event(bytes: &mut [u8], feature: u32, e: Event)
     requires { length bytes.old ≡ 64 }
-    ensures { bytes.new ≡ eventBytes feature e }
+    ensures { bytes.new ≡ event_bytes feature e }
 {
     put_first(bytes, e.kind, byte_of(e.tagged), e.present, e.size);
     put_two(bytes, 8, e.idx, feature);
@@ -42,7 +42,7 @@ pub fn put_event(bytes: &mut [u8], feature: u32, e: Event)
 // The fields of a record, whether it is well-formed or not.
 pub fn event_of(bytes: &[u8]) -> Event
     requires { length bytes.now ≡ 64 }
-    ensures { result ≡ eventOf bytes.now }
+    ensures { result ≡ event_of bytes.now }
 {
     let size = u32_at(bytes, 4);
     let idx = u32_at(bytes, 8);
@@ -70,14 +70,14 @@ pub fn event_of(bytes: &[u8]) -> Event
 // The number of the feature that a record is of.
 pub fn feature_of(bytes: &[u8]) -> u32
     requires { length bytes.now ≡ 64 }
-    ensures { result ≡ featureOf bytes.now }
+    ensures { result ≡ feature_of bytes.now }
 {
     u32_at(bytes, 12)
 }
 
 fn spare_zero(bytes: &[u8]) -> bool
     requires { length bytes.now ≡ 64 }
-    ensures { result ≡ spareZero bytes.now }
+    ensures { result ≡ spare_zero bytes.now }
 {
     (bytes[1] <= 1) & (bytes[3] == 0)
 }
@@ -85,7 +85,7 @@ fn spare_zero(bytes: &[u8]) -> bool
 // What a record's bytes are: a pair, a coordinate, a begin that sets no type, any other event, or malformed. Pairs are the
 // commonest by far, then coordinates, so the kind is looked at first and those two are held to constants.
 pub fn read_event(bytes: &[u8]) -> Heard
-    ensures { result ≡ toldApart (readEvent bytes.now) }
+    ensures { result ≡ told_apart (read_event bytes.now) }
 {
     if bytes.len() != 64 {
         return Heard::Malformed;
@@ -116,7 +116,7 @@ pub fn read_event(bytes: &[u8]) -> Heard
 
 // The pair that bytes are if they are an xy event: what read_event says of it, short enough to stand in two places.
 pub fn read_bare(bytes: &[u8]) -> Bare
-    ensures { BareOf (readEvent bytes.now) result }
+    ensures { BareOf (read_event bytes.now) result }
 {
     if bytes.len() != 64 {
         return Bare::Other;
@@ -134,7 +134,7 @@ pub fn read_bare(bytes: &[u8]) -> Bare
 
 // Whether bytes are an event at all. Coordinates alone have present bits, so that for any other kind no value is asked about its bit.
 pub fn is_event(bytes: &[u8]) -> bool
-    ensures { result ≡ isEvent (readEvent bytes.now) }
+    ensures { result ≡ is_event (read_event bytes.now) }
 {
     if bytes.len() != 64 {
         return false;
@@ -159,7 +159,7 @@ pub fn is_event(bytes: &[u8]) -> bool
 // told with few tests to each.
 pub fn is_pair(bytes: &[u8], feature: u32, idx: u32) -> bool
     requires { length bytes.now ≡ 64 }
-    ensures { result ≡ true → OwnPair (readEvent bytes.now) (featureOf bytes.now) feature idx }
+    ensures { result ≡ true → OwnPair (read_event bytes.now) (feature_of bytes.now) feature idx }
 {
     let head = u64_at(bytes, 0);
     let numbers = u64_at(bytes, 8);

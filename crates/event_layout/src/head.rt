@@ -2,12 +2,12 @@
 ghost use Rattle.std.specs.Prelude.{◌≡◌, ◌++◌, ◌+◌, ◌≤◌, length};
 ghost use Rattle.std.proofs.lemmas.List.Edits.{sets};
 ghost use Rattle.laws.specs.Bytes.{le};
-ghost use Rattle.event_layout.specs.Head.{headBytes};
+ghost use Rattle.event_layout.specs.Head.{head_bytes};
 
 use numbers::put_u64;
 
 fn head_word(first: u8, second: u8, third: u8, v: u32) -> u64
-    ensures { le 8 result ≡ headBytes first second third ++ le 4 v }
+    ensures { le 8 result ≡ head_bytes first second third ++ le 4 v }
 {
     (first as u64) + 256 * (second as u64) + 65536 * (third as u64) + 4294967296 * (v as u64)
 }
@@ -15,7 +15,7 @@ fn head_word(first: u8, second: u8, third: u8, v: u32) -> u64
 // A record's first four bytes and a number, laid down as one word.
 pub fn put_first(s: &mut [u8], first: u8, second: u8, third: u8, v: u32)
     requires { 8 ≤ length s.old }
-    ensures { s.new ≡ sets s.old 0 (headBytes first second third ++ le 4 v) }
+    ensures { s.new ≡ sets s.old 0 (head_bytes first second third ++ le 4 v) }
 {
     put_u64(s, 0, head_word(first, second, third, v));
 }

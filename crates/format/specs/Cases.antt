@@ -4,19 +4,19 @@ use Rattle.std.proofs.Math.Option.{Option, none, some}
 use Rattle.std.proofs.Math.ListN.{get_elem?}
 use Rattle.laws.specs.Script.{Script, ◌⨟◌}
 use Rattle.laws.specs.Framed.{framed}
-use Rattle.kinds.specs.Event.{beginE, endE, xyE, coordinateE}
+use Rattle.kinds.specs.Event.{begin_e, end_e, xy_e, coordinate_e}
 use Rattle.kinds.specs.declared.event.Event.{Event}
 use Rattle.kinds.specs.declared.flags.Flags.{Flags}
 use Rattle.store.specs.Lists.{Rec}
-use Rattle.geometries.specs.Coordinate.{coordE}
-use Rattle.coords.specs.Coords.{taken, coordinateS, pairS, coordsS, betweenS}
-use Rattle.lines.specs.Lines.{stretchS, linesS, flatO, flatS, ringsS, stretchesS, polygonS, multiLineS, triangleAt, trianglesS, triangleS, tinS, pointS}
-use Rattle.reader.specs.Reading.{partsS, spanS, polygonPart, curveOf, curveS, kindS, geometryS, rootS, readS}
-use Rattle.asking.specs.SetType.{unknownType, collected, setType}
+use Rattle.geometries.specs.Coordinate.{coord_e}
+use Rattle.coords.specs.Coords.{taken, coordinate_s, pair_s, coords_s, between_s}
+use Rattle.lines.specs.Lines.{stretch_s, lines_s, flat_o, flat_s, rings_s, stretches_s, polygon_s, multi_line_s, triangle_at, triangles_s, triangle_s, tin_s, point_s}
+use Rattle.reader.specs.Reading.{parts_s, span_s, polygon_part, curve_of, curve_s, kind_s, geometry_s, root_s, read_s}
+use Rattle.asking.specs.SetType.{unknown_type, collected, set_type}
 use Rattle.asking.specs.Ask.{begun}
-use Rattle.writer_model.specs.Writer.{Writer, fresh, longer, part_of, finishPart, coordinate, endPushed, lineEnd, polygonEnd, after, afterAll, nay, finish, tree, next}
+use Rattle.writer_model.specs.Writer.{Writer, fresh, longer, part_of, finish_part, coordinate, end_pushed, line_end, polygon_end, after, after_all, nay, finish, tree, next}
 use Rattle.geometries.specs.Geometry.{Coord, Geometry}
-use Rattle.geometries.specs.Events.{eventsOf}
+use Rattle.geometries.specs.Events.{events_of}
 
 abbrev pub plain : Flags
 plain = record { z = false; m = false; t = false; tm = false }
@@ -43,21 +43,21 @@ abbrev pub empty : ℕ → Option (ℕ × ℕ) → Rec
 empty kind parts = record { kind = kind; xy = none; ends = none; z = none; m = none; t = none; tm = none; parts = parts }
 
 -- read under a type
-unfoldable pub readUnder : Flags → List Rec → ℕ → Script Event
-unfolding framed taken coordinateS pairS coordsS betweenS stretchS linesS flatO flatS ringsS stretchesS polygonS multiLineS triangleAt trianglesS triangleS tinS pointS partsS spanS polygonPart curveOf curveS kindS geometryS rootS readS ◌⨟◌ beginE endE xyE coordE coordinateE
-readUnder F recs type = readS F (get_elem? recs) type
+unfoldable pub read_under : Flags → List Rec → ℕ → Script Event
+unfolding framed taken coordinate_s pair_s coords_s between_s stretch_s lines_s flat_o flat_s rings_s stretches_s polygon_s multi_line_s triangle_at triangles_s triangle_s tin_s point_s parts_s span_s polygon_part curve_of curve_s kind_s geometry_s root_s read_s ◌⨟◌ begin_e end_e xy_e coord_e coordinate_e
+read_under F recs type = read_s F (get_elem? recs) type
 
 -- no event is refused
-abbrev allTaken : Writer → List Event → Bool
-allTaken w [] = true
-allTaken w (e ∷ es) = eqb (nay w e) 0 && allTaken (after w e) es
+abbrev all_taken : Writer → List Event → Bool
+all_taken w [] = true
+all_taken w (e ∷ es) = eqb (nay w e) 0 && all_taken (after w e) es
 
 -- the writer after a geometry's events, with d declared and nothing detected
 unfoldable pub written : Flags → (n : ℕ) → ℕ → Bool → Geometry n → Writer
-unfolding fresh afterAll after begun setType unknownType collected coordinate endPushed lineEnd polygonEnd finishPart part_of longer finish next eventsOf beginE endE xyE coordE coordinateE
-written F n d promote g = afterAll (fresh d false promote) (eventsOf F n g)
+unfolding fresh after_all after begun set_type unknown_type collected coordinate end_pushed line_end polygon_end finish_part part_of longer finish next events_of begin_e end_e xy_e coord_e coordinate_e
+written F n d promote g = after_all (fresh d false promote) (events_of F n g)
 
 -- written and then read under what is declared; none where an event is refused
 unfoldable pub there_and_back : Flags → (n : ℕ) → ℕ → Bool → Geometry n → Option (Script Event)
-unfolding readUnder written nay
-there_and_back F n d promote g = cond (allTaken (fresh d false promote) (eventsOf F n g)) (some (readUnder F (tree (written F n d promote g)) d)) none
+unfolding read_under written nay
+there_and_back F n d promote g = cond (all_taken (fresh d false promote) (events_of F n g)) (some (read_under F (tree (written F n d promote g)) d)) none

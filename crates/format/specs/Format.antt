@@ -2,13 +2,13 @@
 use Rattle.std.specs.Prelude.{◌≡◌, cond, List, [], ◌∷◌, ◌++◌, map, ℕ, zero, suc, ◌+◌, length, eqb}
 use Rattle.std.proofs.Math.Option.{Option, none, some}
 use Rattle.store.specs.Lists.{Rec}
-use Rattle.lines.specs.Lines.{orNone}
-use Rattle.geometries.specs.Geometry.{Coord, Line, Segment, straight, arc, Curve, segment, compound, Surface, flat, curved, Simple, point, lineString, polygon, multiPoint, multiLineString, multiPolygon, circularString, compoundCurve, curvePolygon, multiCurve, multiSurface, polyhedralSurface, tin, triangle, simple, collection, Geometry, type_of}
+use Rattle.lines.specs.Lines.{or_none}
+use Rattle.geometries.specs.Geometry.{Coord, Line, Segment, straight, arc, Curve, segment, compound, Surface, flat, curved, Simple, point, line_string, polygon, multi_point, multi_line_string, multi_polygon, circular_string, compound_curve, curve_polygon, multi_curve, multi_surface, polyhedral_surface, tin, triangle, simple, collection, Geometry, type_of}
 
 -- xy: flat x and y coordinate array (flat pairs)
-abbrev pub xyOf : List Coord → List ℕ
-xyOf [] = []
-xyOf (c ∷ cs) = c.x ∷ c.y ∷ xyOf cs
+abbrev pub xy_of : List Coord → List ℕ
+xy_of [] = []
+xy_of (c ∷ cs) = c.x ∷ c.y ∷ xy_of cs
 
 -- z, m, t, tm: flat arrays by coordinate. Absent: no coordinate has a value; present: each has one
 abbrev pub values_of : Option (List ℕ) → List Coord → List (Option ℕ)
@@ -20,7 +20,7 @@ pub record ByCoord (o : Option (List ℕ)) (f : Coord → Option ℕ) (cs : List
 
 -- the table's coordinates
 pub record Coords (r : Rec) (cs : List Coord) : Type 0 where
-  pub xy : r.xy ≡ some (xyOf cs)
+  pub xy : r.xy ≡ some (xy_of cs)
   pub z : ByCoord r.z (λ c. c.z) cs
   pub m : ByCoord r.m (λ c. c.m) cs
   pub t : ByCoord r.t (λ c. c.t) cs
@@ -31,19 +31,19 @@ joined [] = []
 joined (l ∷ ls) = l ++ joined ls
 
 -- ends: array of end index in flat coordinates per geometry part
-abbrev pub endsFrom : ℕ → List Line → List ℕ
-endsFrom n [] = []
-endsFrom n (l ∷ ls) = (n + length l) ∷ endsFrom (n + length l) ls
+abbrev pub ends_from : ℕ → List Line → List ℕ
+ends_from n [] = []
+ends_from n (l ∷ ls) = (n + length l) ∷ ends_from (n + length l) ls
 
 -- without ends there is one part
 abbrev pub Ends : List ℕ → List Line → Type 0
 Ends [] ls = length ls ≡ 1
-Ends (e ∷ es) ls = e ∷ es ≡ endsFrom 0 ls
+Ends (e ∷ es) ls = e ∷ es ≡ ends_from 0 ls
 
 -- the table's lines, or rings
 pub record Lines (r : Rec) (ls : List Line) : Type 0 where
   pub coords : Coords r (joined ls)
-  pub ends : Ends (orNone r.ends) ls
+  pub ends : Ends (or_none r.ends) ls
 
 module _ (get : ℕ → Option Rec) where
   abbrev pub Each : {A : Type 0} → (Rec → A → Type 0) → ℕ → List A → Type 0
@@ -71,17 +71,17 @@ module _ (get : ℕ → Option Rec) where
 
   abbrev pub Is : Rec → Simple → Type 0
   Is r (point c) = Coords r (c ∷ [])
-  Is r (lineString l) = Coords r l
+  Is r (line_string l) = Coords r l
   Is r (polygon rs) = Lines r rs
-  Is r (multiPoint cs) = Coords r cs
-  Is r (multiLineString ls) = Lines r ls
-  Is r (multiPolygon ps) = Parts Lines r ps
-  Is r (circularString l) = Coords r l
-  Is r (compoundCurve ss) = Parts IsSegment r ss
-  Is r (curvePolygon cs) = Parts IsCurve r cs
-  Is r (multiCurve cs) = Parts IsCurve r cs
-  Is r (multiSurface ss) = Parts IsSurface r ss
-  Is r (polyhedralSurface ps) = Parts Lines r ps
+  Is r (multi_point cs) = Coords r cs
+  Is r (multi_line_string ls) = Lines r ls
+  Is r (multi_polygon ps) = Parts Lines r ps
+  Is r (circular_string l) = Coords r l
+  Is r (compound_curve ss) = Parts IsSegment r ss
+  Is r (curve_polygon cs) = Parts IsCurve r cs
+  Is r (multi_curve cs) = Parts IsCurve r cs
+  Is r (multi_surface ss) = Parts IsSurface r ss
+  Is r (polyhedral_surface ps) = Parts Lines r ps
   Is r (tin ts) = Lines r ts
   Is r (triangle l) = Lines r (l ∷ [])
 

@@ -8,14 +8,14 @@ use Rattle.std.proofs.lemmas.Bool.{eqb-false}
 use Rattle.laws.specs.Script.{Script, stop, say}
 use Rattle.kinds.specs.declared.flags.Flags.{Flags}
 use Rattle.store.specs.Lists.{Rec}
-use Rattle.reader.specs.Reading.{readS}
+use Rattle.reader.specs.Reading.{read_s}
 use Rattle.geometries.specs.Geometry.{Coord, Line, Simple, simple, collection, Geometry, depth}
-use Rattle.geometries.specs.Events.{eventsOf}
-use Rattle.format.specs.Format.{xyOf, joined, endsFrom, Coords, Lines, Each, Parts, Is, Means, Tree}
-use Rattle.format.specs.FormatLaws.{xy-length}
+use Rattle.geometries.specs.Events.{events_of}
+use Rattle.format.specs.Format.{xy_of, joined, ends_from, Coords, Lines, Each, Parts, Is, Means, Tree}
+use Rattle.format.specs.FormatLaws.{xy_length}
 use Rattle.geometries.specs.Told.{told}
 use Rattle.format.specs.Reads.{AllSmall, agrees, reads}
-use Rattle.format.specs.Once.{OfType, asType}
+use Rattle.format.specs.Once.{OfType, as_type}
 
 -- ---- what the reader refuses means nothing, but for what `agrees` and the levels ask
 abbrev pub Refused : {A : Type 0} → Script A → Type 0
@@ -23,12 +23,12 @@ Refused (stop zero) = ⊥
 Refused (stop (suc c)) = Unit {0}
 Refused (say a s) = Refused s
 
-told-whole : {A : Type 0} (l : List A) → Refused (told l) → ⊥
-told-whole [] r = r
-told-whole (a ∷ l) r = told-whole l r
+told_whole : {A : Type 0} (l : List A) → Refused (told l) → ⊥
+told_whole [] r = r
+told_whole (a ∷ l) r = told_whole l r
 
-pub refused-meaningless : (F : Flags) (get : ℕ → Option Rec) → AllSmall get → (n type : ℕ) (g : Geometry n) (t : Tree get n type g) → agrees type t.root.kind ≡ true → depth n g ≤ 15 → Refused (readS F get type) → ⊥
-refused-meaningless F get small n type g t a d r = told-whole (eventsOf F n g) (rw (reads F get small n type g t a d) at r)
+pub refused_meaningless : (F : Flags) (get : ℕ → Option Rec) → AllSmall get → (n type : ℕ) (g : Geometry n) (t : Tree get n type g) → agrees type t.root.kind ≡ true → depth n g ≤ 15 → Refused (read_s F get type) → ⊥
+refused_meaningless F get small n type g t a d r = told_whole (events_of F n g) (rw (reads F get small n type g t a d) at r)
 
 -- ---- a tree of a type that is no collection's: no geometry of the type is its root
 abbrev pub Meaningless : List Rec → ℕ → Type 0
@@ -45,8 +45,8 @@ module _ (r : Rec) (rest : List Rec) (type : ℕ) (known : eqb type 0 ≡ false)
       root_is = let e : some t.root ≡ some r = sym t.has in cc
 
       go : (n : ℕ) (g : Geometry n) → Means get n type r g → ⊥
-      go zero s m = none s (asType type s m.0) m.1
-      go (suc n) (simple s) m = none s (asType type s m.0) m.1
+      go zero s m = none s (as_type type s m.0) m.1
+      go (suc n) (simple s) m = none s (as_type type s m.0) m.1
       go (suc n) (collection gs) m = eqb-false type 7 one m.0
 
 -- ---- what lists must keep
@@ -55,24 +55,24 @@ abbrev pub last_end : ℕ → List ℕ → ℕ
 last_end n [] = n
 last_end n (e ∷ es) = last_end e es
 
-last-end : (n : ℕ) (ls : List Line) → last_end n (endsFrom n ls) ≡ n + length (joined ls)
-last-end n [] = omega arith
-last-end n (l ∷ ls) = last-end (n + length l) ls ∙ omega (arith, length-append l (joined ls))
+last_end_lem : (n : ℕ) (ls : List Line) → last_end n (ends_from n ls) ≡ n + length (joined ls)
+last_end_lem n [] = omega arith
+last_end_lem n (l ∷ ls) = last_end_lem (n + length l) ls ∙ omega (arith, length-append l (joined ls))
 
 pub ends-count : (r : Rec) (ls : List Line) (xy : List ℕ) (e : ℕ) (es : List ℕ) → r.xy ≡ some xy → r.ends ≡ some (e ∷ es) → Lines r ls → length xy ≡ 2 * last_end e es
 ends-count r ls xy e es a b h =
-    let q : some xy ≡ some (xyOf (joined ls)) = sym a ∙ h.coords.xy in
-    let p : xy ≡ xyOf (joined ls) = cc in
-    let f : e ∷ es ≡ endsFrom 0 ls = rw b at h.ends in
-    omega (arith, ap (λ (l : List ℕ). length l) p, xy-length (joined ls), ap (λ (l : List ℕ). last_end 0 l) f, last-end 0 ls)
+    let q : some xy ≡ some (xy_of (joined ls)) = sym a ∙ h.coords.xy in
+    let p : xy ≡ xy_of (joined ls) = cc in
+    let f : e ∷ es ≡ ends_from 0 ls = rw b at h.ends in
+    omega (arith, ap (λ (l : List ℕ). length l) p, xy_length (joined ls), ap (λ (l : List ℕ). last_end 0 l) f, last_end_lem 0 ls)
 
 -- a height for each coordinate
 pub heights-count : (r : Rec) (cs : List Coord) (xy zs : List ℕ) → r.xy ≡ some xy → r.z ≡ some zs → Coords r cs → length xy ≡ 2 * length zs
 heights-count r cs xy zs a b h =
-    let q : some xy ≡ some (xyOf cs) = sym a ∙ h.xy in
-    let p : xy ≡ xyOf cs = cc in
+    let q : some xy ≡ some (xy_of cs) = sym a ∙ h.xy in
+    let p : xy ≡ xy_of cs = cc in
     let f : map (λ (c : Coord). c.z) cs ≡ map some zs = rw b at h.z.is in
-    omega (arith, ap (λ (l : List ℕ). length l) p, xy-length cs, ap (λ (l : List (Option ℕ)). length l) f, length-map cs (λ (c : Coord). c.z), length-map zs (λ (v : ℕ). some v))
+    omega (arith, ap (λ (l : List ℕ). length l) p, xy_length cs, ap (λ (l : List (Option ℕ)). length l) f, length-map cs (λ (c : Coord). c.z), length-map zs (λ (v : ℕ). some v))
 
 -- an only part means one element
 pub only_part : {A : Type 0} (M : Rec → A → Type 0) (r p : Rec) (xs : List A) → r.parts ≡ some (1, 1) → Parts (get_elem? (r ∷ p ∷ [])) M r xs → (a : A) × M p a

@@ -5,75 +5,75 @@ use Rattle.std.proofs.Math.Option.{Option, some}
 use Rattle.std.proofs.lemmas.Bool.{eqb-false}
 use Rattle.laws.specs.Every.{never}
 use Rattle.store.specs.Lists.{Rec}
-use Rattle.coords.specs.Coords.{tailOf}
-use Rattle.lines.specs.Lines.{orNone, single}
-use Rattle.geometries.specs.Geometry.{Coord, Line, Rings, Segment, straight, arc, Curve, segment, compound, Surface, flat, curved, Simple, point, lineString, polygon, multiPoint, multiLineString, multiPolygon, circularString, compoundCurve, curvePolygon, multiCurve, multiSurface, polyhedralSurface, tin, triangle, simple, collection, Geometry, type_of}
-use Rattle.format.specs.Format.{xyOf, ByCoord, Coords, joined, endsFrom, Lines, Each, Parts, IsSegment, IsCurve, IsSurface, Is, Means, Tree}
-use Rattle.format.specs.FormatLaws.{lane_first, lane-rest, ends-length, Cut, whole, split, cut}
+use Rattle.coords.specs.Coords.{tail_of}
+use Rattle.lines.specs.Lines.{or_none, single}
+use Rattle.geometries.specs.Geometry.{Coord, Line, Rings, Segment, straight, arc, Curve, segment, compound, Surface, flat, curved, Simple, point, line_string, polygon, multi_point, multi_line_string, multi_polygon, circular_string, compound_curve, curve_polygon, multi_curve, multi_surface, polyhedral_surface, tin, triangle, simple, collection, Geometry, type_of}
+use Rattle.format.specs.Format.{xy_of, ByCoord, Coords, joined, ends_from, Lines, Each, Parts, IsSegment, IsCurve, IsSurface, Is, Means, Tree}
+use Rattle.format.specs.FormatLaws.{lane_first, lane_rest, ends-length, Cut, whole, split, cut}
 
 -- a geometry of a type has that type's form
 pub data OfType : ℕ → Simple → Type 0 where
-  ofPoint : (c : Coord) → OfType 1 (point c)
-  ofLine : (l : Line) → OfType 2 (lineString l)
-  ofPolygon : (rs : Rings) → OfType 3 (polygon rs)
-  ofPoints : (cs : List Coord) → OfType 4 (multiPoint cs)
-  ofLines : (ls : List Line) → OfType 5 (multiLineString ls)
-  ofPolygons : (ps : List Rings) → OfType 6 (multiPolygon ps)
-  ofArc : (l : Line) → OfType 8 (circularString l)
-  ofCompound : (ss : List Segment) → OfType 9 (compoundCurve ss)
-  ofCurved : (cs : List Curve) → OfType 10 (curvePolygon cs)
-  ofCurves : (cs : List Curve) → OfType 11 (multiCurve cs)
-  ofSurfaces : (ss : List Surface) → OfType 12 (multiSurface ss)
-  ofFaces : (ps : List Rings) → OfType 15 (polyhedralSurface ps)
-  ofTin : (ts : List Line) → OfType 16 (tin ts)
-  ofTriangle : (l : Line) → OfType 17 (triangle l)
+  of_point : (c : Coord) → OfType 1 (point c)
+  of_line : (l : Line) → OfType 2 (line_string l)
+  of_polygon : (rs : Rings) → OfType 3 (polygon rs)
+  of_points : (cs : List Coord) → OfType 4 (multi_point cs)
+  of_lines : (ls : List Line) → OfType 5 (multi_line_string ls)
+  of_polygons : (ps : List Rings) → OfType 6 (multi_polygon ps)
+  of_arc : (l : Line) → OfType 8 (circular_string l)
+  of_compound : (ss : List Segment) → OfType 9 (compound_curve ss)
+  of_curved : (cs : List Curve) → OfType 10 (curve_polygon cs)
+  of_curves : (cs : List Curve) → OfType 11 (multi_curve cs)
+  of_surfaces : (ss : List Surface) → OfType 12 (multi_surface ss)
+  of_faces : (ps : List Rings) → OfType 15 (polyhedral_surface ps)
+  of_tin : (ts : List Line) → OfType 16 (tin ts)
+  of_triangle : (l : Line) → OfType 17 (triangle l)
 
-ofType : (s : Simple) → OfType (type_of s) s
-ofType (point c) = ofPoint c
-ofType (lineString l) = ofLine l
-ofType (polygon rs) = ofPolygon rs
-ofType (multiPoint cs) = ofPoints cs
-ofType (multiLineString ls) = ofLines ls
-ofType (multiPolygon ps) = ofPolygons ps
-ofType (circularString l) = ofArc l
-ofType (compoundCurve ss) = ofCompound ss
-ofType (curvePolygon cs) = ofCurved cs
-ofType (multiCurve cs) = ofCurves cs
-ofType (multiSurface ss) = ofSurfaces ss
-ofType (polyhedralSurface ps) = ofFaces ps
-ofType (tin ts) = ofTin ts
-ofType (triangle l) = ofTriangle l
+of_type : (s : Simple) → OfType (type_of s) s
+of_type (point c) = of_point c
+of_type (line_string l) = of_line l
+of_type (polygon rs) = of_polygon rs
+of_type (multi_point cs) = of_points cs
+of_type (multi_line_string ls) = of_lines ls
+of_type (multi_polygon ps) = of_polygons ps
+of_type (circular_string l) = of_arc l
+of_type (compound_curve ss) = of_compound ss
+of_type (curve_polygon cs) = of_curved cs
+of_type (multi_curve cs) = of_curves cs
+of_type (multi_surface ss) = of_surfaces ss
+of_type (polyhedral_surface ps) = of_faces ps
+of_type (tin ts) = of_tin ts
+of_type (triangle l) = of_triangle l
 
-pub asType : (type : ℕ) (s : Simple) → type ≡ type_of s → OfType type s
-asType type s e = rw e (ofType s)
+pub as_type : (type : ℕ) (s : Simple) → type ≡ type_of s → OfType type s
+as_type type s e = rw e (of_type s)
 
 -- ---- coordinates
 record Fed (o : Option (List ℕ)) (f : Coord → Option ℕ) (cs ds : List Coord) : Type 0 where
   one : ByCoord o f cs
   two : ByCoord o f ds
 
-fed-head : {o : Option (List ℕ)} {f : Coord → Option ℕ} {c d : Coord} {cs ds : List Coord} → Fed o f (c ∷ cs) (d ∷ ds) → f c ≡ f d
-fed-head h = lane_first h.one ∙ sym (lane_first h.two)
+fed_head : {o : Option (List ℕ)} {f : Coord → Option ℕ} {c d : Coord} {cs ds : List Coord} → Fed o f (c ∷ cs) (d ∷ ds) → f c ≡ f d
+fed_head h = lane_first h.one ∙ sym (lane_first h.two)
 
-fed-tail : {o : Option (List ℕ)} {f : Coord → Option ℕ} {c d : Coord} {cs ds : List Coord} → Fed o f (c ∷ cs) (d ∷ ds) → Fed (tailOf o) f cs ds
-fed-tail h = record { one = lane-rest h.one; two = lane-rest h.two }
+fed_tail : {o : Option (List ℕ)} {f : Coord → Option ℕ} {c d : Coord} {cs ds : List Coord} → Fed o f (c ∷ cs) (d ∷ ds) → Fed (tail_of o) f cs ds
+fed_tail h = record { one = lane_rest h.one; two = lane_rest h.two }
 
-list_same : (cs ds : List Coord) (z m t tm : Option (List ℕ)) → xyOf cs ≡ xyOf ds → Fed z (λ c. c.z) cs ds → Fed m (λ c. c.m) cs ds → Fed t (λ c. c.t) cs ds → Fed tm (λ c. c.tm) cs ds → cs ≡ ds
+list_same : (cs ds : List Coord) (z m t tm : Option (List ℕ)) → xy_of cs ≡ xy_of ds → Fed z (λ c. c.z) cs ds → Fed m (λ c. c.m) cs ds → Fed t (λ c. c.t) cs ds → Fed tm (λ c. c.tm) cs ds → cs ≡ ds
 list_same [] [] z m t tm e a b c d = refl
 list_same [] (q ∷ ds) z m t tm e a b c d = absurd (never (cc))
 list_same (p ∷ cs) [] z m t tm e a b c d = absurd (never (cc))
 list_same (p ∷ cs) (q ∷ ds) z m t tm e a b c d =
     let hx : p.x ≡ q.x = cc in
     let hy : p.y ≡ q.y = cc in
-    let r : xyOf cs ≡ xyOf ds = cc in
-    let ih : cs ≡ ds = list_same cs ds (tailOf z) (tailOf m) (tailOf t) (tailOf tm) r (fed-tail a) (fed-tail b) (fed-tail c) (fed-tail d) in
-    let h : p ≡ q = λ i. record { x = hx i; y = hy i; z = fed-head a i; m = fed-head b i; t = fed-head c i; tm = fed-head d i } in
+    let r : xy_of cs ≡ xy_of ds = cc in
+    let ih : cs ≡ ds = list_same cs ds (tail_of z) (tail_of m) (tail_of t) (tail_of tm) r (fed_tail a) (fed_tail b) (fed_tail c) (fed_tail d) in
+    let h : p ≡ q = λ i. record { x = hx i; y = hy i; z = fed_head a i; m = fed_head b i; t = fed_head c i; tm = fed_head d i } in
     λ i. h i ∷ ih i
 
-coords-same : (r : Rec) (cs ds : List Coord) → Coords r cs → Coords r ds → cs ≡ ds
-coords-same r cs ds a b =
-    let e : some (xyOf cs) ≡ some (xyOf ds) = sym a.xy ∙ b.xy in
-    let q : xyOf cs ≡ xyOf ds = cc in
+coords_same : (r : Rec) (cs ds : List Coord) → Coords r cs → Coords r ds → cs ≡ ds
+coords_same r cs ds a b =
+    let e : some (xy_of cs) ≡ some (xy_of ds) = sym a.xy ∙ b.xy in
+    let q : xy_of cs ≡ xy_of ds = cc in
     list_same cs ds r.z r.m r.t r.tm q (record { one = a.z; two = b.z }) (record { one = a.m; two = b.m }) (record { one = a.t; two = b.t }) (record { one = a.tm; two = b.tm })
 
 -- ---- lines
@@ -86,24 +86,24 @@ append-same (a ∷ l) (b ∷ m) t u n e =
     let q = append-same l m t u (omega arith) (cc) in
     (λ i. h i ∷ q.0 i, q.1)
 
-ends_same : (n : ℕ) (ls ms : List Line) → endsFrom n ls ≡ endsFrom n ms → joined ls ≡ joined ms → ls ≡ ms
+ends_same : (n : ℕ) (ls ms : List Line) → ends_from n ls ≡ ends_from n ms → joined ls ≡ joined ms → ls ≡ ms
 ends_same n [] [] e j = refl
 ends_same n [] (m ∷ ms) e j = absurd (never (cc))
 ends_same n (l ∷ ls) [] e j = absurd (never (cc))
 ends_same n (l ∷ ls) (m ∷ ms) e j =
     let a : n + length l ≡ n + length m = cc in
-    let b : endsFrom (n + length l) ls ≡ endsFrom (n + length m) ms = cc in
+    let b : ends_from (n + length l) ls ≡ ends_from (n + length m) ms = cc in
     let q = append-same l m (joined ls) (joined ms) (omega arith) j in
     let ih = ends_same (n + length m) ls ms (rw a at b) q.1 in
     λ i. q.0 i ∷ ih i
 
 lines_same : (r : Rec) (ls ms : List Line) → Lines r ls → Lines r ms → ls ≡ ms
-lines_same r ls ms a b = go (cut _ ls a.ends) (cut _ ms b.ends) (coords-same r _ _ a.coords b.coords)
+lines_same r ls ms a b = go (cut _ ls a.ends) (cut _ ms b.ends) (coords_same r _ _ a.coords b.coords)
   where
-    few : (ls : List Line) → single (orNone r.ends) ≡ true → orNone r.ends ≡ endsFrom 0 ls → 2 ≤ length ls → ⊥
-    few ls q e n = omega (arith, leb-true (length (orNone r.ends)) 1 q, ends-length 0 ls, ap (λ (l : List ℕ). length l) e)
+    few : (ls : List Line) → single (or_none r.ends) ≡ true → or_none r.ends ≡ ends_from 0 ls → 2 ≤ length ls → ⊥
+    few ls q e n = omega (arith, leb-true (length (or_none r.ends)) 1 q, ends-length 0 ls, ap (λ (l : List ℕ). length l) e)
 
-    go : Cut (orNone r.ends) ls → Cut (orNone r.ends) ms → joined ls ≡ joined ms → ls ≡ ms
+    go : Cut (or_none r.ends) ls → Cut (or_none r.ends) ms → joined ls ≡ joined ms → ls ≡ ms
     go (whole l e q) (whole m f p) j =
         let k : l ≡ m = sym (append-nil l) ∙ (rw (e, f) at j) ∙ append-nil m in
         cc
@@ -135,59 +135,59 @@ module _ (get : ℕ → Option Rec) where
   apart : {A : Type 0} (k m n : ℕ) → k ≡ m → k ≡ n → eqb m n ≡ false → A
   apart k m n a b e = absurd (eqb-false m n e (sym a ∙ b))
 
-  segment-same : (r : Rec) (s t : Segment) → IsSegment get r s → IsSegment get r t → s ≡ t
-  segment-same r (straight l) (straight m) a b = ap straight (coords-same r l m a.1 b.1)
-  segment-same r (straight l) (arc m) a b = apart _ 2 8 a.0 b.0 refl
-  segment-same r (arc l) (straight m) a b = apart _ 8 2 a.0 b.0 refl
-  segment-same r (arc l) (arc m) a b = ap arc (coords-same r l m a.1 b.1)
+  segment_same : (r : Rec) (s t : Segment) → IsSegment get r s → IsSegment get r t → s ≡ t
+  segment_same r (straight l) (straight m) a b = ap straight (coords_same r l m a.1 b.1)
+  segment_same r (straight l) (arc m) a b = apart _ 2 8 a.0 b.0 refl
+  segment_same r (arc l) (straight m) a b = apart _ 8 2 a.0 b.0 refl
+  segment_same r (arc l) (arc m) a b = ap arc (coords_same r l m a.1 b.1)
 
-  not-nine : (r : Rec) (s : Segment) → IsSegment get r s → r.kind ≡ 9 → ⊥
-  not-nine r (straight l) a e = apart _ 2 9 a.0 e refl
-  not-nine r (arc l) a e = apart _ 8 9 a.0 e refl
+  not_nine : (r : Rec) (s : Segment) → IsSegment get r s → r.kind ≡ 9 → ⊥
+  not_nine r (straight l) a e = apart _ 2 9 a.0 e refl
+  not_nine r (arc l) a e = apart _ 8 9 a.0 e refl
 
-  curve-same : (r : Rec) (s t : Curve) → IsCurve get r s → IsCurve get r t → s ≡ t
-  curve-same r (segment s) (segment t) a b = ap segment (segment-same r s t a b)
-  curve-same r (segment s) (compound ts) a b = absurd (not-nine r s a b.0)
-  curve-same r (compound ss) (segment t) a b = absurd (not-nine r t b a.0)
-  curve-same r (compound ss) (compound ts) a b = ap compound (parts_same (IsSegment get) segment-same r ss ts a.1 b.1)
+  curve_same : (r : Rec) (s t : Curve) → IsCurve get r s → IsCurve get r t → s ≡ t
+  curve_same r (segment s) (segment t) a b = ap segment (segment_same r s t a b)
+  curve_same r (segment s) (compound ts) a b = absurd (not_nine r s a b.0)
+  curve_same r (compound ss) (segment t) a b = absurd (not_nine r t b a.0)
+  curve_same r (compound ss) (compound ts) a b = ap compound (parts_same (IsSegment get) segment_same r ss ts a.1 b.1)
 
-  surface-same : (r : Rec) (s t : Surface) → IsSurface get r s → IsSurface get r t → s ≡ t
-  surface-same r (flat rs) (flat qs) a b = ap flat (lines_same r rs qs a.1 b.1)
-  surface-same r (flat rs) (curved cs) a b = apart _ 3 10 a.0 b.0 refl
-  surface-same r (curved cs) (flat rs) a b = apart _ 10 3 a.0 b.0 refl
-  surface-same r (curved cs) (curved ds) a b = ap curved (parts_same (IsCurve get) curve-same r cs ds a.1 b.1)
+  surface_same : (r : Rec) (s t : Surface) → IsSurface get r s → IsSurface get r t → s ≡ t
+  surface_same r (flat rs) (flat qs) a b = ap flat (lines_same r rs qs a.1 b.1)
+  surface_same r (flat rs) (curved cs) a b = apart _ 3 10 a.0 b.0 refl
+  surface_same r (curved cs) (flat rs) a b = apart _ 10 3 a.0 b.0 refl
+  surface_same r (curved cs) (curved ds) a b = ap curved (parts_same (IsCurve get) curve_same r cs ds a.1 b.1)
 
   form-same : (r : Rec) (type : ℕ) (s t : Simple) → OfType type s → OfType type t → Is get r s → Is get r t → s ≡ t
-  form-same r type s t (ofPoint c) (ofPoint d) a b = let e = coords-same r (c ∷ []) (d ∷ []) a b in let h : c ≡ d = cc in ap point h
-  form-same r type s t (ofLine l) (ofLine m) a b = ap lineString (coords-same r l m a b)
-  form-same r type s t (ofPolygon l) (ofPolygon m) a b = ap polygon (lines_same r l m a b)
-  form-same r type s t (ofPoints l) (ofPoints m) a b = ap multiPoint (coords-same r l m a b)
-  form-same r type s t (ofLines l) (ofLines m) a b = ap multiLineString (lines_same r l m a b)
-  form-same r type s t (ofPolygons l) (ofPolygons m) a b = ap multiPolygon (parts_same Lines lines_same r l m a b)
-  form-same r type s t (ofArc l) (ofArc m) a b = ap circularString (coords-same r l m a b)
-  form-same r type s t (ofCompound l) (ofCompound m) a b = ap compoundCurve (parts_same (IsSegment get) segment-same r l m a b)
-  form-same r type s t (ofCurved l) (ofCurved m) a b = ap curvePolygon (parts_same (IsCurve get) curve-same r l m a b)
-  form-same r type s t (ofCurves l) (ofCurves m) a b = ap multiCurve (parts_same (IsCurve get) curve-same r l m a b)
-  form-same r type s t (ofSurfaces l) (ofSurfaces m) a b = ap multiSurface (parts_same (IsSurface get) surface-same r l m a b)
-  form-same r type s t (ofFaces l) (ofFaces m) a b = ap polyhedralSurface (parts_same Lines lines_same r l m a b)
-  form-same r type s t (ofTin l) (ofTin m) a b = ap tin (lines_same r l m a b)
-  form-same r type s t (ofTriangle l) (ofTriangle m) a b = let e = lines_same r (l ∷ []) (m ∷ []) a b in let h : l ≡ m = cc in ap triangle h
+  form-same r type s t (of_point c) (of_point d) a b = let e = coords_same r (c ∷ []) (d ∷ []) a b in let h : c ≡ d = cc in ap point h
+  form-same r type s t (of_line l) (of_line m) a b = ap line_string (coords_same r l m a b)
+  form-same r type s t (of_polygon l) (of_polygon m) a b = ap polygon (lines_same r l m a b)
+  form-same r type s t (of_points l) (of_points m) a b = ap multi_point (coords_same r l m a b)
+  form-same r type s t (of_lines l) (of_lines m) a b = ap multi_line_string (lines_same r l m a b)
+  form-same r type s t (of_polygons l) (of_polygons m) a b = ap multi_polygon (parts_same Lines lines_same r l m a b)
+  form-same r type s t (of_arc l) (of_arc m) a b = ap circular_string (coords_same r l m a b)
+  form-same r type s t (of_compound l) (of_compound m) a b = ap compound_curve (parts_same (IsSegment get) segment_same r l m a b)
+  form-same r type s t (of_curved l) (of_curved m) a b = ap curve_polygon (parts_same (IsCurve get) curve_same r l m a b)
+  form-same r type s t (of_curves l) (of_curves m) a b = ap multi_curve (parts_same (IsCurve get) curve_same r l m a b)
+  form-same r type s t (of_surfaces l) (of_surfaces m) a b = ap multi_surface (parts_same (IsSurface get) surface_same r l m a b)
+  form-same r type s t (of_faces l) (of_faces m) a b = ap polyhedral_surface (parts_same Lines lines_same r l m a b)
+  form-same r type s t (of_tin l) (of_tin m) a b = ap tin (lines_same r l m a b)
+  form-same r type s t (of_triangle l) (of_triangle m) a b = let e = lines_same r (l ∷ []) (m ∷ []) a b in let h : l ≡ m = cc in ap triangle h
 
-  simple-same : (r : Rec) (type : ℕ) (s t : Simple) → (type ≡ type_of s) × Is get r s → (type ≡ type_of t) × Is get r t → s ≡ t
-  simple-same r type s t a b = form-same r type s t (asType type s a.0) (asType type t b.0) a.1 b.1
+  simple_same : (r : Rec) (type : ℕ) (s t : Simple) → (type ≡ type_of s) × Is get r s → (type ≡ type_of t) × Is get r t → s ≡ t
+  simple_same r type s t a b = form-same r type s t (as_type type s a.0) (as_type type t b.0) a.1 b.1
 
-  not-seven : (s : Simple) → 7 ≡ type_of s → ⊥
-  not-seven s e = elim (asType 7 s e) [ ]
+  not_seven : (s : Simple) → 7 ≡ type_of s → ⊥
+  not_seven s e = elim (as_type 7 s e) [ ]
 
-  pub means-once : (n type : ℕ) (r : Rec) (g g' : Geometry n) → Means get n type r g → Means get n type r g' → g ≡ g'
-  means-once zero type r s t a b = simple-same r type s t a b
-  means-once (suc n) type r (simple s) (simple t) a b = ap simple (simple-same r type s t a b)
-  means-once (suc n) type r (simple s) (collection hs) a b = absurd (not-seven s (sym b.0 ∙ a.0))
-  means-once (suc n) type r (collection gs) (simple t) a b = absurd (not-seven t (sym a.0 ∙ b.0))
-  means-once (suc n) type r (collection gs) (collection hs) a b = ap collection (parts_same (λ p g. Means get n p.kind p g) (λ p g h. means-once n p.kind p g h) r gs hs a.1 b.1)
+  pub means_once : (n type : ℕ) (r : Rec) (g g' : Geometry n) → Means get n type r g → Means get n type r g' → g ≡ g'
+  means_once zero type r s t a b = simple_same r type s t a b
+  means_once (suc n) type r (simple s) (simple t) a b = ap simple (simple_same r type s t a b)
+  means_once (suc n) type r (simple s) (collection hs) a b = absurd (not_seven s (sym b.0 ∙ a.0))
+  means_once (suc n) type r (collection gs) (simple t) a b = absurd (not_seven t (sym a.0 ∙ b.0))
+  means_once (suc n) type r (collection gs) (collection hs) a b = ap collection (parts_same (λ p g. Means get n p.kind p g) (λ p g h. means_once n p.kind p g h) r gs hs a.1 b.1)
 
-  pub tree-once : (n type : ℕ) (g g' : Geometry n) → Tree get n type g → Tree get n type g' → g ≡ g'
-  tree-once n type g g' t t' =
+  pub tree_once : (n type : ℕ) (g g' : Geometry n) → Tree get n type g → Tree get n type g' → g ≡ g'
+  tree_once n type g g' t t' =
       let f : some t.root ≡ some t'.root = sym t.has ∙ t'.has in
       let p : t.root ≡ t'.root = cc in
-      means-once n _ t'.root g g' (subst (λ (r : Rec). Means get n (cond (eqb type 0) r.kind type) r g) p t.means) t'.means
+      means_once n _ t'.root g g' (subst (λ (r : Rec). Means get n (cond (eqb type 0) r.kind type) r g) p t.means) t'.means

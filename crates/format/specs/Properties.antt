@@ -1,7 +1,7 @@
 -- The property bytes of the published format: header.fbs for the types of columns, feature.fbs for the buffer. Its words stand before each definition.
 use Rattle.std.specs.Prelude.{◌≡◌, true, List, [], ◌∷◌, ◌++◌, ℕ, ◌<◌, length, get_or}
 use Rattle.laws.specs.Bytes.{le}
-use Rattle.utf8.specs.Utf8.{isUtf8}
+use Rattle.utf8.specs.Utf8.{is_utf8}
 
 -- ColumnType
 pub data Number : Type 0 where
@@ -38,21 +38,21 @@ form_of ulong = form 8 8 18446744073709551616
 form_of float = form 9 4 4294967296
 form_of double = form 10 8 18446744073709551616
 
-abbrev pub sizedType : Sized → ℕ
-sizedType string = 11
-sizedType json = 12
-sizedType dateTime = 13
-sizedType binary = 14
+abbrev pub sized_type : Sized → ℕ
+sized_type string = 11
+sized_type json = 12
+sized_type dateTime = 13
+sized_type binary = 14
 
 abbrev pub type_of : Value → ℕ
 type_of (number k n) = (form_of k).type
-type_of (sized k bytes) = sizedType k
+type_of (sized k bytes) = sized_type k
 
 -- UTF8 string; Json and DateTime are text too
 abbrev pub Spelt : Sized → List ℕ → Type 0
-Spelt string bytes = isUtf8 bytes ≡ true
-Spelt json bytes = isUtf8 bytes ≡ true
-Spelt dateTime bytes = isUtf8 bytes ≡ true
+Spelt string bytes = is_utf8 bytes ≡ true
+Spelt json bytes = is_utf8 bytes ≡ true
+Spelt dateTime bytes = is_utf8 bytes ≡ true
 Spelt binary bytes = Unit {0}
 
 abbrev pub Fits : Value → Type 0
@@ -60,21 +60,21 @@ Fits (number k n) = n < (form_of k).below
 Fits (sized k bytes) = (length bytes < 4294967296) × Spelt k bytes
 
 -- little-endian; bytes have their length as uint first
-abbrev pub valueBytes : Value → List ℕ
-valueBytes (number k n) = le (form_of k).wide n
-valueBytes (sized k bytes) = le 4 (length bytes) ++ bytes
+abbrev pub value_bytes : Value → List ℕ
+value_bytes (number k n) = le (form_of k).wide n
+value_bytes (sized k bytes) = le 4 (length bytes) ++ bytes
 
 -- properties: variable length collection of key/value pairs (key=ushort)
 pub record Property : Type 0 where
   pub column : ℕ
   pub value : Value
 
-abbrev pub propertyBytes : Property → List ℕ
-propertyBytes p = le 2 p.column ++ valueBytes p.value
+abbrev pub property_bytes : Property → List ℕ
+property_bytes p = le 2 p.column ++ value_bytes p.value
 
-abbrev pub bufferOf : List Property → List ℕ
-bufferOf [] = []
-bufferOf (p ∷ ps) = propertyBytes p ++ bufferOf ps
+abbrev pub buffer_of : List Property → List ℕ
+buffer_of [] = []
+buffer_of (p ∷ ps) = property_bytes p ++ buffer_of ps
 
 -- a key is the number of a column, and the column has the value's type
 pub record Keyed (columns : List ℕ) (p : Property) : Type 0 where

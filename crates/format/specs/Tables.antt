@@ -9,11 +9,11 @@ use Rattle.laws.specs.Every.{never}
 use Rattle.kinds.specs.declared.flags.Flags.{Flags}
 use Rattle.store.specs.Lists.{Rec}
 use Rattle.geometries.specs.Coordinate.{is}
-use Rattle.lines.specs.Lines.{orNone}
+use Rattle.lines.specs.Lines.{or_none}
 use Rattle.writer_model.specs.Writer.{longer}
 use Rattle.writer_model.specs.Tree.{Holds}
 use Rattle.geometries.specs.Geometry.{Coord, Line, Rings}
-use Rattle.format.specs.Format.{xyOf, values_of, ByCoord, Coords, joined, endsFrom, Ends, Lines, Each}
+use Rattle.format.specs.Format.{xy_of, values_of, ByCoord, Coords, joined, ends_from, Ends, Lines, Each}
 use Rattle.format.specs.FormatLaws.{ends-length}
 use Rattle.format.specs.Writable.{All, Some, Has, HasRings}
 
@@ -28,47 +28,47 @@ vals f (c ∷ cs) = listed (f c) ++ vals f cs
 
 -- ---- a table of coordinates and ends, of a stored type
 unfoldable pub table_of : ℕ → List Coord → List ℕ → Rec
-table_of type cs es = record { kind = type; xy = some (xyOf cs); ends = longer 1 es; z = longer 0 (vals (λ c. c.z) cs); m = longer 0 (vals (λ c. c.m) cs); t = longer 0 (vals (λ c. c.t) cs); tm = longer 0 (vals (λ c. c.tm) cs); parts = none }
+table_of type cs es = record { kind = type; xy = some (xy_of cs); ends = longer 1 es; z = longer 0 (vals (λ c. c.z) cs); m = longer 0 (vals (λ c. c.m) cs); t = longer 0 (vals (λ c. c.t) cs); tm = longer 0 (vals (λ c. c.tm) cs); parts = none }
 
 -- a table of rings, or of lines
-abbrev pub ringsTable : ℕ → Rings → Rec
-ringsTable type rs = table_of type (joined rs) (endsFrom 0 rs)
+abbrev pub rings_table : ℕ → Rings → Rec
+rings_table type rs = table_of type (joined rs) (ends_from 0 rs)
 
 -- a root over parts
-abbrev pub rootTable : ℕ → ℕ → Rec
-rootTable type n = record { kind = type; xy = none; ends = none; z = none; m = none; t = none; tm = none; parts = some (1, n) }
+abbrev pub root_table : ℕ → ℕ → Rec
+root_table type n = record { kind = type; xy = none; ends = none; z = none; m = none; t = none; tm = none; parts = some (1, n) }
 
 -- ---- what they mean
 pub is_none : (o : Option ℕ) → is o ≡ false → o ≡ none
 is_none none e = refl
 is_none (some v) e = absurd (never (cc))
 
-lane-none : (f : Coord → Option ℕ) (cs : List Coord) → All (λ c. is (f c) ≡ false) cs → (vals f cs ≡ []) × (map f cs ≡ map (λ c. none) cs)
-lane-none f [] q = (refl, refl)
-lane-none f (c ∷ cs) q =
+lane_none : (f : Coord → Option ℕ) (cs : List Coord) → All (λ c. is (f c) ≡ false) cs → (vals f cs ≡ []) × (map f cs ≡ map (λ c. none) cs)
+lane_none f [] q = (refl, refl)
+lane_none f (c ∷ cs) q =
     let e : f c ≡ none = is_none _ q.0 in
-    let r = lane-none f cs q.1 in
+    let r = lane_none f cs q.1 in
     (rw (e, r.0), rw (e, r.1))
 
-lane-some : (f : Coord → Option ℕ) (cs : List Coord) → All (λ c. is (f c) ≡ true) cs → map f cs ≡ map some (vals f cs)
-lane-some f [] q = refl
-lane-some f (c ∷ cs) q = go (f c) q.0 (lane-some f cs q.1)
+lane_some : (f : Coord → Option ℕ) (cs : List Coord) → All (λ c. is (f c) ≡ true) cs → map f cs ≡ map some (vals f cs)
+lane_some f [] q = refl
+lane_some f (c ∷ cs) q = go (f c) q.0 (lane_some f cs q.1)
   where
     go : (o : Option ℕ) → is o ≡ true → map f cs ≡ map some (vals f cs) → o ∷ map f cs ≡ map some (listed o ++ vals f cs)
     go none e r = absurd (never (cc))
     go (some v) e r = ap (λ (l : List (Option ℕ)). some v ∷ l) r
 
-no-coords : (f : Coord → Option ℕ) (cs : List Coord) → map f cs ≡ [] → map f cs ≡ map (λ c. none) cs
-no-coords f [] e = refl
-no-coords f (c ∷ cs) e = absurd (never (cc))
+no_coords : (f : Coord → Option ℕ) (cs : List Coord) → map f cs ≡ [] → map f cs ≡ map (λ c. none) cs
+no_coords f [] e = refl
+no_coords f (c ∷ cs) e = absurd (never (cc))
 
-lane-kept : (b : Bool) (f : Coord → Option ℕ) (cs : List Coord) → All (λ c. is (f c) ≡ b) cs → ByCoord (longer 0 (vals f cs)) f cs
+lane_kept : (b : Bool) (f : Coord → Option ℕ) (cs : List Coord) → All (λ c. is (f c) ≡ b) cs → ByCoord (longer 0 (vals f cs)) f cs
 unfolding longer
-lane-kept false f cs q = let r = lane-none f cs q in record { is = rw r.0 r.1 }
-lane-kept true f cs q = record { is = go (vals f cs) (lane-some f cs q) }
+lane_kept false f cs q = let r = lane_none f cs q in record { is = rw r.0 r.1 }
+lane_kept true f cs q = record { is = go (vals f cs) (lane_some f cs q) }
   where
     go : (vs : List ℕ) → map f cs ≡ map some vs → map f cs ≡ values_of (cond (leb (length vs) 0) none (some vs)) cs
-    go [] e = no-coords f cs e
+    go [] e = no_coords f cs e
     go (v ∷ vs) e = rw (lt-leb (length (v ∷ vs)) 0 (omega arith)) e
 
 all_map : {A : Type 0} (P Q : A → Type 0) → ((a : A) → P a → Q a) → (xs : List A) → All P xs → All Q xs
@@ -84,24 +84,24 @@ all-joined P [] q = tt
 all-joined P (l ∷ ls) q = all_append P l (joined ls) q.0 (all-joined P ls q.1)
 
 module _ (F : Flags) (type : ℕ) where
-  pub table-coords : (cs : List Coord) (es : List ℕ) → All (Has F) cs → Coords (table_of type cs es) cs
+  pub table_coords : (cs : List Coord) (es : List ℕ) → All (Has F) cs → Coords (table_of type cs es) cs
   unfolding table_of
-  table-coords cs es q = record {
+  table_coords cs es q = record {
     xy = refl;
-    z = lane-kept F.z (λ c. c.z) cs (all_map (Has F) _ (λ c h. h.z) cs q);
-    m = lane-kept F.m (λ c. c.m) cs (all_map (Has F) _ (λ c h. h.m) cs q);
-    t = lane-kept F.t (λ c. c.t) cs (all_map (Has F) _ (λ c h. h.t) cs q);
-    tm = lane-kept F.tm (λ c. c.tm) cs (all_map (Has F) _ (λ c h. h.tm) cs q);
+    z = lane_kept F.z (λ c. c.z) cs (all_map (Has F) _ (λ c h. h.z) cs q);
+    m = lane_kept F.m (λ c. c.m) cs (all_map (Has F) _ (λ c h. h.m) cs q);
+    t = lane_kept F.t (λ c. c.t) cs (all_map (Has F) _ (λ c h. h.t) cs q);
+    tm = lane_kept F.tm (λ c. c.tm) cs (all_map (Has F) _ (λ c h. h.tm) cs q);
   }
 
-  table-ends : (ls : List Line) → Some ls → Ends (orNone (longer 1 (endsFrom 0 ls))) ls
+  table-ends : (ls : List Line) → Some ls → Ends (or_none (longer 1 (ends_from 0 ls))) ls
   unfolding longer
   table-ends [] q = absurd q
   table-ends (l ∷ []) q = refl
-  table-ends (l ∷ l' ∷ ls) q = rw (lt-leb (length (endsFrom 0 (l ∷ l' ∷ ls))) 1 (omega (arith, ends-length 0 (l ∷ l' ∷ ls)))) refl
+  table-ends (l ∷ l' ∷ ls) q = rw (lt-leb (length (ends_from 0 (l ∷ l' ∷ ls))) 1 (omega (arith, ends-length 0 (l ∷ l' ∷ ls)))) refl
 
-  pub table-lines : (ls : List Line) → HasRings F ls → Lines (ringsTable type ls) ls
-  table-lines ls q = record { coords = table-coords (joined ls) (endsFrom 0 ls) (all-joined (Has F) ls q.1); ends = unfold table_of in table-ends ls q.0 }
+  pub table-lines : (ls : List Line) → HasRings F ls → Lines (rings_table type ls) ls
+  table-lines ls q = record { coords = table_coords (joined ls) (ends_from 0 ls) (all-joined (Has F) ls q.1); ends = unfold table_of in table-ends ls q.0 }
 
 -- parts that stand one after another
 pub parts_are : {A : Type 0} (M : Rec → A → Type 0) (P : A → Type 0) (table : A → Rec) → ((a : A) → P a → M (table a) a) → (get : ℕ → Option Rec) (xs : List A) (n : ℕ) → All P xs → Holds get n (map table xs) → Each get M n xs

@@ -2,7 +2,7 @@
 use Rattle.std.specs.Prelude.{◌≡◌, List, [], ◌∷◌}
 use Rattle.kinds.specs.declared.flags.Flags.{Flags}
 use Rattle.geometries.specs.Coordinate.{is}
-use Rattle.geometries.specs.Geometry.{Coord, Line, Rings, Simple, point, lineString, polygon, multiPoint, multiLineString, multiPolygon, circularString, polyhedralSurface, tin, triangle}
+use Rattle.geometries.specs.Geometry.{Coord, Line, Rings, Simple, point, line_string, polygon, multi_point, multi_line_string, multi_polygon, circular_string, polyhedral_surface, tin, triangle}
 
 abbrev pub All : {A : Type 0} → (A → Type 0) → List A → Type 0
 All P [] = Unit {0}
@@ -32,12 +32,12 @@ pub data Held : Type 0 where
 -- ten of the fourteen types: no part is made for the elements of a CompoundCurve, CurvePolygon, MultiCurve or MultiSurface
 pub data Writable (F : Flags) : Simple → Held → Type 0 where
   a_point : (c : Coord) → Has F c → Writable F (point c) (coords (c ∷ []))
-  a-line : (l : Line) → All (Has F) l → Writable F (lineString l) (coords l)
-  a-polygon : (rs : Rings) → HasRings F rs → Writable F (polygon rs) (lines rs)
-  many-points : (cs : List Coord) → All (Has F) cs → Writable F (multiPoint cs) (coords cs)
-  many-lines : (ls : List Line) → HasRings F ls → Writable F (multiLineString ls) (lines ls)
-  many-polygons : (ps : List Rings) → Some ps → All (HasRings F) ps → Writable F (multiPolygon ps) (polygons ps)
-  an-arc : (l : Line) → All (Has F) l → Writable F (circularString l) (coords l)
-  a-surface : (ps : List Rings) → Some ps → All (HasRings F) ps → Writable F (polyhedralSurface ps) (polygons ps)
-  a-tin : (ts : List Line) → HasRings F ts → Writable F (tin ts) (lines ts)
-  a-triangle : (l : Line) → All (Has F) l → Writable F (triangle l) (lines (l ∷ []))
+  a_line : (l : Line) → All (Has F) l → Writable F (line_string l) (coords l)
+  a_polygon : (rs : Rings) → HasRings F rs → Writable F (polygon rs) (lines rs)
+  many_points : (cs : List Coord) → All (Has F) cs → Writable F (multi_point cs) (coords cs)
+  many_lines : (ls : List Line) → HasRings F ls → Writable F (multi_line_string ls) (lines ls)
+  many_polygons : (ps : List Rings) → Some ps → All (HasRings F) ps → Writable F (multi_polygon ps) (polygons ps)
+  an_arc : (l : Line) → All (Has F) l → Writable F (circular_string l) (coords l)
+  a_surface : (ps : List Rings) → Some ps → All (HasRings F) ps → Writable F (polyhedral_surface ps) (polygons ps)
+  a_tin : (ts : List Line) → HasRings F ts → Writable F (tin ts) (lines ts)
+  a_triangle : (l : Line) → All (Has F) l → Writable F (triangle l) (lines (l ∷ []))

@@ -2,12 +2,12 @@
 ghost use Rattle.std.specs.Prelude.{◌≡◌, true, cond, ◌<◌, eqb, length};
 ghost use Rattle.std.proofs.lemmas.List.Edits.{sets};
 ghost use Rattle.kinds.specs.Lanes.{endsL};
-ghost use Rattle.store.specs.Records.{recordsLent};
+ghost use Rattle.store.specs.Records.{records_lent};
 ghost use Rattle.pending.specs.Words.{used};
-ghost use Rattle.asking.specs.Ask.{noWords, askOf};
-ghost use Rattle.writing.specs.Calls.{gives, tableAfter};
+ghost use Rattle.asking.specs.Ask.{no_words, ask_of};
+ghost use Rattle.writing.specs.Calls.{gives, table_after};
 ghost use Rattle.pending.specs.Room.{Fits};
-ghost use Rattle.writing.specs.Other.{decideOther};
+ghost use Rattle.writing.specs.Other.{decide_other};
 
 use asking::ask::ask_of;
 use kinds::event::Event;
@@ -25,11 +25,11 @@ pub fn take_other(
     ends: &mut [u32],
 ) -> Wrote
     requires kind { e.kind < 64 }
-    requires fits { ready ≡ true → Fits s.pending noWords }
-    ensures answer { result ≡ decideOther s n (askOf s.typing e) ready (recordsLent table.old) (length ends.old) }
-    ensures records { let a = askOf s.typing e in
-        table.new ≡ cond (eqb result.number 0) (tableAfter s a table.old) table.old }
-    ensures words { let a = askOf s.typing e in
+    requires fits { ready ≡ true → Fits s.pending no_words }
+    ensures answer { result ≡ decide_other s n (ask_of s.typing e) ready (records_lent table.old) (length ends.old) }
+    ensures records { let a = ask_of s.typing e in
+        table.new ≡ cond (eqb result.number 0) (table_after s a table.old) table.old }
+    ensures words { let a = ask_of s.typing e in
         let after = sets ends.old (used s.pending.ends) (gives s a.added e endsL) in
         ends.new ≡ cond (eqb result.number 0) after ends.old }
 {

@@ -1,7 +1,7 @@
 -- A coordinate event: a pair with the values that it has of height, measure and times.
 use Rattle.std.specs.Prelude.{Bool, true, false, cond, ◌||◌, ℕ, ◌+◌}
 use Rattle.std.proofs.Math.Option.{Option, none, some}
-use Rattle.kinds.specs.Event.{coordinateE}
+use Rattle.kinds.specs.Event.{coordinate_e}
 use Rattle.kinds.specs.declared.event.Event.{Event}
 use Rattle.kinds.specs.declared.flags.Flags.{Flags}
 
@@ -22,5 +22,5 @@ or0 (some v) = v
 abbrev pub bits : Bool → Bool → Bool → Bool → ℕ
 bits z m t tm = cond z 1 0 + cond m 2 0 + cond t 4 0 + cond tm 8 0
 
-unfoldable pub coordE : ℕ → ℕ → Option ℕ → Option ℕ → Option ℕ → Option ℕ → ℕ → Event
-coordE x y z m t tm idx = coordinateE x y (bits (is z) (is m) (is t) (is tm)) (or0 z) (or0 m) (or0 t) (or0 tm) idx
+unfoldable pub coord_e : ℕ → ℕ → Option ℕ → Option ℕ → Option ℕ → Option ℕ → ℕ → Event
+coord_e x y z m t tm idx = coordinate_e x y (bits (is z) (is m) (is t) (is tm)) (or0 z) (or0 m) (or0 t) (or0 tm) idx

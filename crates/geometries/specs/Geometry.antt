@@ -32,17 +32,17 @@ pub data Surface : Type 0 where
 
 pub data Simple : Type 0 where
   point : Coord → Simple
-  lineString : Line → Simple
+  line_string : Line → Simple
   polygon : Rings → Simple
-  multiPoint : List Coord → Simple
-  multiLineString : List Line → Simple
-  multiPolygon : List Rings → Simple
-  circularString : Line → Simple
-  compoundCurve : List Segment → Simple
-  curvePolygon : List Curve → Simple
-  multiCurve : List Curve → Simple
-  multiSurface : List Surface → Simple
-  polyhedralSurface : List Rings → Simple
+  multi_point : List Coord → Simple
+  multi_line_string : List Line → Simple
+  multi_polygon : List Rings → Simple
+  circular_string : Line → Simple
+  compound_curve : List Segment → Simple
+  curve_polygon : List Curve → Simple
+  multi_curve : List Curve → Simple
+  multi_surface : List Surface → Simple
+  polyhedral_surface : List Rings → Simple
   tin : List Line → Simple
   triangle : Line → Simple
 
@@ -58,17 +58,17 @@ Geometry (suc n) = Shape (Geometry n)
 -- the numbers of header.fbs
 abbrev pub type_of : Simple → ℕ
 type_of (point c) = 1
-type_of (lineString l) = 2
+type_of (line_string l) = 2
 type_of (polygon rs) = 3
-type_of (multiPoint cs) = 4
-type_of (multiLineString ls) = 5
-type_of (multiPolygon ps) = 6
-type_of (circularString l) = 8
-type_of (compoundCurve ss) = 9
-type_of (curvePolygon cs) = 10
-type_of (multiCurve cs) = 11
-type_of (multiSurface ss) = 12
-type_of (polyhedralSurface ps) = 15
+type_of (multi_point cs) = 4
+type_of (multi_line_string ls) = 5
+type_of (multi_polygon ps) = 6
+type_of (circular_string l) = 8
+type_of (compound_curve ss) = 9
+type_of (curve_polygon cs) = 10
+type_of (multi_curve cs) = 11
+type_of (multi_surface ss) = 12
+type_of (polyhedral_surface ps) = 15
 type_of (tin ts) = 16
 type_of (triangle l) = 17
 
@@ -80,31 +80,31 @@ deep d (a ∷ xs) = max (suc (d a)) (deep d xs)
 abbrev pub flatly : {A : Type 0} → A → ℕ
 flatly a = 0
 
-abbrev pub curveDepth : Curve → ℕ
-curveDepth (segment s) = 0
-curveDepth (compound ss) = deep flatly ss
+abbrev pub curve_depth : Curve → ℕ
+curve_depth (segment s) = 0
+curve_depth (compound ss) = deep flatly ss
 
-abbrev pub surfaceDepth : Surface → ℕ
-surfaceDepth (flat rs) = 0
-surfaceDepth (curved cs) = deep curveDepth cs
+abbrev pub surface_depth : Surface → ℕ
+surface_depth (flat rs) = 0
+surface_depth (curved cs) = deep curve_depth cs
 
-abbrev pub simpleDepth : Simple → ℕ
-simpleDepth (point c) = 0
-simpleDepth (lineString l) = 0
-simpleDepth (polygon rs) = 0
-simpleDepth (multiPoint cs) = 0
-simpleDepth (multiLineString ls) = 0
-simpleDepth (multiPolygon ps) = deep flatly ps
-simpleDepth (circularString l) = 0
-simpleDepth (compoundCurve ss) = deep flatly ss
-simpleDepth (curvePolygon cs) = deep curveDepth cs
-simpleDepth (multiCurve cs) = deep curveDepth cs
-simpleDepth (multiSurface ss) = deep surfaceDepth ss
-simpleDepth (polyhedralSurface ps) = deep flatly ps
-simpleDepth (tin ts) = 0
-simpleDepth (triangle l) = 0
+abbrev pub simple_depth : Simple → ℕ
+simple_depth (point c) = 0
+simple_depth (line_string l) = 0
+simple_depth (polygon rs) = 0
+simple_depth (multi_point cs) = 0
+simple_depth (multi_line_string ls) = 0
+simple_depth (multi_polygon ps) = deep flatly ps
+simple_depth (circular_string l) = 0
+simple_depth (compound_curve ss) = deep flatly ss
+simple_depth (curve_polygon cs) = deep curve_depth cs
+simple_depth (multi_curve cs) = deep curve_depth cs
+simple_depth (multi_surface ss) = deep surface_depth ss
+simple_depth (polyhedral_surface ps) = deep flatly ps
+simple_depth (tin ts) = 0
+simple_depth (triangle l) = 0
 
 abbrev pub depth : (n : ℕ) → Geometry n → ℕ
-depth zero s = simpleDepth s
-depth (suc n) (simple s) = simpleDepth s
+depth zero s = simple_depth s
+depth (suc n) (simple s) = simple_depth s
 depth (suc n) (collection gs) = deep (depth n) gs

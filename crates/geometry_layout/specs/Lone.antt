@@ -3,12 +3,12 @@ use Rattle.std.specs.Prelude.{◌≡◌, Bool, true, cond, ◌&&◌, List, ℕ, 
 use Rattle.std.proofs.Common.{arith, lit≤}
 use borrow.Author.Tests.{eq-eqb, eqb-true}
 use Rattle.laws.specs.Every.{both}
-use Rattle.laws.specs.Bytes.{word_at, eight-at}
-use Rattle.kinds.specs.Geometry.{loneGeometry}
+use Rattle.laws.specs.Bytes.{word_at, eight_at}
+use Rattle.kinds.specs.Geometry.{lone_geometry}
 use Rattle.kinds.specs.declared.geometry.Lone.{Lone}
 use Rattle.kinds.specs.declared.geometry.Lone.TheVariants.{List as Alone, Other}
 use Rattle.kinds.specs.declared.geometry.Judged.TheVariants.{Good}
-use Rattle.geometry_layout.specs.Geometry.{geometryOf, soundGeometry, readGeometry}
+use Rattle.geometry_layout.specs.Geometry.{geometry_of, sound_geometry, read_geometry}
 
 -- present bit 1 alone is set, and all from the second pair on is zero
 unfoldable pub is_lone : List ℕ → Bool
@@ -17,8 +17,8 @@ is_lone l =
     && eqb (word_at 8 l 12) 0 && eqb (word_at 8 l 20) 0 && eqb (word_at 8 l 28) 0
     && eqb (word_at 8 l 36) 0 && eqb (word_at 8 l 44) 0 && eqb (word_at 8 l 52) 0 && eqb (word_at 4 l 60) 0
 
-unfoldable pub loneIn : List ℕ → Lone
-loneIn l = cond (is_lone l) (Alone (word_at 4 l 4) (word_at 4 l 8)) Other
+unfoldable pub lone_in : List ℕ → Lone
+lone_in l = cond (is_lone l) (Alone (word_at 4 l 4) (word_at 4 l 8)) Other
 
 -- ---- such a record reads as the geometry of its list
 module _ (l : List ℕ) (long : length l ≡ 64) (lone : is_lone l ≡ true) where
@@ -61,12 +61,12 @@ module _ (l : List ℕ) (long : length l ≡ 64) (lone : is_lone l ≡ true) whe
 
   halves : (i : ℕ) → i + 8 ≤ 64 → word_at 8 l i ≡ 0 → (word_at 4 l i ≡ 0) × (word_at 4 l (i + 4) ≡ 0)
   halves i h e =
-      let s = eight-at l i (omega arith) in
+      let s = eight_at l i (omega arith) in
       (omega (arith, s, e), omega (arith, s, e))
 
-  lone-sound : soundGeometry l ≡ true
-  unfolding soundGeometry
-  lone-sound =
+  lone_sound : sound_geometry l ≡ true
+  unfolding sound_geometry
+  lone_sound =
       let w = zeros in
       let ends = halves 12 (lit≤ tt) w.ends in
       let z = halves 20 (lit≤ tt) w.z in
@@ -76,10 +76,10 @@ module _ (l : List ℕ) (long : length l ≡ 64) (lone : is_lone l ≡ true) whe
       let parts = halves 52 (lit≤ tt) w.parts in
       rw (w.present, w.second, w.third, w.last, ends.0, ends.1, z.0, z.1, m.0, m.1, t.0, t.1, tm.0, tm.1, parts.0, parts.1)
 
-  lone-lists : geometryOf l ≡ loneGeometry (get_or l 0 0) (word_at 4 l 4) (word_at 4 l 8)
-  unfolding geometryOf
-  lone-lists = rw zeros.present
+  lone_lists : geometry_of l ≡ lone_geometry (get_or l 0 0) (word_at 4 l 4) (word_at 4 l 8)
+  unfolding geometry_of
+  lone_lists = rw zeros.present
 
-  pub lone-read : readGeometry l ≡ Good (loneGeometry (get_or l 0 0) (word_at 4 l 4) (word_at 4 l 8))
-  unfolding readGeometry
-  lone-read = rw (eq-eqb (length l) 64 long, lone-sound, lone-lists)
+  pub lone_read : read_geometry l ≡ Good (lone_geometry (get_or l 0 0) (word_at 4 l 4) (word_at 4 l 8))
+  unfolding read_geometry
+  lone_read = rw (eq-eqb (length l) 64 long, lone_sound, lone_lists)

@@ -1,9 +1,9 @@
 // The 64-byte geometry record.
 ghost use Rattle.std.specs.Prelude.{◌≡◌, ◌+◌, ◌≤◌, ◌<◌, length};
 ghost use Rattle.std.proofs.lemmas.List.Edits.{sets};
-ghost use Rattle.kinds.specs.Geometry.{start_of, countOf};
-ghost use Rattle.geometry_layout.specs.Geometry.{headBytes, presentOf, shown, spanBytes, geometryBytes, spanAt, absentZero, soundGeometry, geometryOf, readGeometry};
-ghost use Rattle.geometry_layout.specs.Lone.{is_lone, loneIn};
+ghost use Rattle.kinds.specs.Geometry.{start_of, count_of};
+ghost use Rattle.geometry_layout.specs.Geometry.{head_bytes, present_of, shown, span_bytes, geometry_bytes, span_at, absent_zero, sound_geometry, geometry_of, read_geometry};
+ghost use Rattle.geometry_layout.specs.Lone.{is_lone, lone_in};
 
 use kinds::event::bit_set;
 use kinds::geometry::{Geometry, Judged, Lone, Span};
@@ -19,7 +19,7 @@ fn start_of(s: Span) -> u32
 }
 
 fn count_of(s: Span) -> u32
-    ensures { result ≡ countOf s }
+    ensures { result ≡ count_of s }
 {
     match s {
         Span::Absent => 0,
@@ -29,7 +29,7 @@ fn count_of(s: Span) -> u32
 
 fn put_span(bytes: &mut [u8], at: usize, s: Span)
     requires { at + 8 ≤ length bytes.old }
-    ensures { bytes.new ≡ sets bytes.old at (spanBytes s) }
+    ensures { bytes.new ≡ sets bytes.old at (span_bytes s) }
 {
     put_u32(bytes, at, start_of(s));
     put_u32(bytes, at + 4, count_of(s));
@@ -46,7 +46,7 @@ fn shown_as(s: Span, bit: u8) -> u8
 }
 
 fn present_of(g: Geometry) -> u8
-    ensures { result ≡ presentOf g }
+    ensures { result ≡ present_of g }
 {
     let xy = g.xy;
     let ends = g.ends;
@@ -66,7 +66,7 @@ fn present_of(g: Geometry) -> u8
 
 fn put_head(s: &mut [u8], kind: u8, present: u8)
     requires { 4 ≤ length s.old }
-    ensures { s.new ≡ sets s.old 0 (headBytes kind present) }
+    ensures { s.new ≡ sets s.old 0 (head_bytes kind present) }
 {
     s[0] = kind;
     s[1] = present;
@@ -76,7 +76,7 @@ fn put_head(s: &mut [u8], kind: u8, present: u8)
 
 pub fn put_geometry(bytes: &mut [u8], g: Geometry)
     requires { length bytes.old ≡ 64 }
-    ensures { bytes.new ≡ geometryBytes g }
+    ensures { bytes.new ≡ geometry_bytes g }
 {
     let xy = g.xy;
     let ends = g.ends;
@@ -98,7 +98,7 @@ pub fn put_geometry(bytes: &mut [u8], g: Geometry)
 
 fn span_at(bytes: &[u8], bit: u8, at: usize) -> Span
     requires { (length bytes.now ≡ 64) × (0 < bit) × (at + 8 ≤ 64) }
-    ensures { result ≡ spanAt bytes.now bit at }
+    ensures { result ≡ span_at bytes.now bit at }
 {
     if bit_set(bytes[1], bit) {
         let start = u32_at(bytes, at);
@@ -111,7 +111,7 @@ fn span_at(bytes: &[u8], bit: u8, at: usize) -> Span
 
 fn geometry_of(bytes: &[u8]) -> Geometry
     requires { length bytes.now ≡ 64 }
-    ensures { result ≡ geometryOf bytes.now }
+    ensures { result ≡ geometry_of bytes.now }
 {
     let xy = span_at(bytes, 1, 4);
     let ends = span_at(bytes, 2, 12);
@@ -134,14 +134,14 @@ fn geometry_of(bytes: &[u8]) -> Geometry
 
 fn absent_zero(bytes: &[u8], bit: u8, at: usize) -> bool
     requires { (length bytes.now ≡ 64) × (0 < bit) × (at + 8 ≤ 64) }
-    ensures { result ≡ absentZero bytes.now bit at }
+    ensures { result ≡ absent_zero bytes.now bit at }
 {
     bit_set(bytes[1], bit) | ((u32_at(bytes, at) == 0) & (u32_at(bytes, at + 4) == 0))
 }
 
 fn sound_geometry(bytes: &[u8]) -> bool
     requires { length bytes.now ≡ 64 }
-    ensures { result ≡ soundGeometry bytes.now }
+    ensures { result ≡ sound_geometry bytes.now }
 {
     (bytes[2] == 0)
         & (bytes[3] == 0)
@@ -157,7 +157,7 @@ fn sound_geometry(bytes: &[u8]) -> bool
 }
 
 pub fn read_geometry(bytes: &[u8]) -> Judged
-    ensures { result ≡ readGeometry bytes.now }
+    ensures { result ≡ read_geometry bytes.now }
 {
     if bytes.len() != 64 {
         return Judged::Bad;
@@ -188,7 +188,7 @@ fn is_lone(bytes: &[u8]) -> bool
 // The list of a record that has an xy list and no other: what read_geometry says of most parts, in a dozen loads.
 pub fn lone_list(bytes: &[u8]) -> Lone
     requires { length bytes.now ≡ 64 }
-    ensures { result ≡ loneIn bytes.now }
+    ensures { result ≡ lone_in bytes.now }
 {
     if is_lone(bytes) {
         let start = u32_at(bytes, 4);

@@ -11,14 +11,14 @@ abbrev pub start_of : Span → ℕ
 start_of Absent = 0
 start_of (Stretch start count) = start
 
-abbrev pub countOf : Span → ℕ
-countOf Absent = 0
-countOf (Stretch start count) = count
+abbrev pub count_of : Span → ℕ
+count_of Absent = 0
+count_of (Stretch start count) = count
 
 -- what every value of the types keeps
 pub record SpanSized (s : Span) : Type 0 where
   pub start : start_of s < 4294967296
-  pub count : countOf s < 4294967296
+  pub count : count_of s < 4294967296
 
 pub record GeometrySized (g : Geometry) : Type 0 where
   pub xy : SpanSized g.xy
@@ -30,10 +30,10 @@ pub record GeometrySized (g : Geometry) : Type 0 where
   pub parts : SpanSized g.parts
 
 -- the number for each case: done, or 10 (SPEC 3.9)
-abbrev pub judgedNumber : Judged → ℕ
-judgedNumber (Good g) = 0
-judgedNumber Bad = 10
+abbrev pub judged_number : Judged → ℕ
+judged_number (Good g) = 0
+judged_number Bad = 10
 
 -- a record that has an xy list and no other
-abbrev pub loneGeometry : ℕ → ℕ → ℕ → Geometry
-loneGeometry kind start count = record { kind = kind; xy = Stretch start count; ends = Absent; z = Absent; m = Absent; t = Absent; tm = Absent; parts = Absent }
+abbrev pub lone_geometry : ℕ → ℕ → ℕ → Geometry
+lone_geometry kind start count = record { kind = kind; xy = Stretch start count; ends = Absent; z = Absent; m = Absent; t = Absent; tm = Absent; parts = Absent }

@@ -1,10 +1,10 @@
 -- What holds in every lane.
 use Rattle.std.specs.Prelude.{◌≡◌, Bool, true}
 use Rattle.laws.specs.Every.{both}
-use Rattle.kinds.specs.Lanes.{Lane, xyL, endsL, zL, mL, tL, tmL, everyLane}
+use Rattle.kinds.specs.Lanes.{Lane, xyL, endsL, zL, mL, tL, tmL, every_lane}
 
-pub lane-of-every : (f : Lane → Bool) → everyLane f ≡ true → (n : Lane) → f n ≡ true
-lane-of-every f h =
+pub lane_of_every : (f : Lane → Bool) → every_lane f ≡ true → (n : Lane) → f n ≡ true
+lane_of_every f h =
     let tm = both _ (f tmL) h in
     let t = both _ (f tL) tm.0 in
     let m = both _ (f mL) t.0 in
@@ -12,5 +12,5 @@ lane-of-every f h =
     let ends = both (f xyL) (f endsL) z.0 in
     λ n. elim n [ xyL ↦ ends.0 | endsL ↦ ends.1 | zL ↦ z.1 | mL ↦ m.1 | tL ↦ t.1 | tmL ↦ tm.1 ]
 
-pub every-of-lanes : (f : Lane → Bool) → ((n : Lane) → f n ≡ true) → everyLane f ≡ true
-every-of-lanes f h = rw (h xyL, h endsL, h zL, h mL, h tL, h tmL)
+pub every_of_lanes : (f : Lane → Bool) → ((n : Lane) → f n ≡ true) → every_lane f ≡ true
+every_of_lanes f h = rw (h xyL, h endsL, h zL, h mL, h tL, h tmL)

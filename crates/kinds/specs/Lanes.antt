@@ -16,25 +16,25 @@ usable mL = 65536
 usable tL = 65536
 usable tmL = 65536
 
-abbrev pub spanIn : Geometry → Lane → Span
-spanIn g xyL = g.xy
-spanIn g endsL = g.ends
-spanIn g zL = g.z
-spanIn g mL = g.m
-spanIn g tL = g.t
-spanIn g tmL = g.tm
+abbrev pub span_in : Geometry → Lane → Span
+span_in g xyL = g.xy
+span_in g endsL = g.ends
+span_in g zL = g.z
+span_in g mL = g.m
+span_in g tL = g.t
+span_in g tmL = g.tm
 
 -- what is lent, from the count of words in each pool
-abbrev pub lentWords : ℕ → ℕ → ℕ → ℕ → ℕ → ℕ → Lent
-lentWords xy ends z m t tm = record { xy = xy; ends = ends; z = z; m = m; t = t; tm = tm }
+abbrev pub lent_words : ℕ → ℕ → ℕ → ℕ → ℕ → ℕ → Lent
+lent_words xy ends z m t tm = record { xy = xy; ends = ends; z = z; m = m; t = t; tm = tm }
 
-abbrev pub lentIn : Lent → Lane → ℕ
-lentIn l xyL = l.xy
-lentIn l endsL = l.ends
-lentIn l zL = l.z
-lentIn l mL = l.m
-lentIn l tL = l.t
-lentIn l tmL = l.tm
+abbrev pub lent_in : Lent → Lane → ℕ
+lent_in l xyL = l.xy
+lent_in l endsL = l.ends
+lent_in l zL = l.z
+lent_in l mL = l.m
+lent_in l tL = l.t
+lent_in l tmL = l.tm
 
-abbrev pub everyLane : (Lane → Bool) → Bool
-everyLane f = f xyL && f endsL && f zL && f mL && f tL && f tmL
+abbrev pub every_lane : (Lane → Bool) → Bool
+every_lane f = f xyL && f endsL && f zL && f mL && f tL && f tmL

@@ -1,6 +1,6 @@
 // Events: what a geometry reader says and a geometry writer hears.
 ghost use Rattle.std.specs.Prelude.{◌≡◌, cond, ◌<◌};
-ghost use Rattle.kinds.specs.Event.{usesOf, keepsUses, isQuiet, beginE, endE, xyE, coordinateE, bitSet};
+ghost use Rattle.kinds.specs.Event.{uses_of, keeps_uses, is_quiet, begin_e, end_e, xy_e, coordinate_e, bit_set};
 
 use crate::flags::Flags;
 
@@ -186,7 +186,7 @@ impl Event {
     };
 
     pub fn uses(kind: u8) -> Uses
-        ensures { result ≡ usesOf kind }
+        ensures { result ≡ uses_of kind }
     {
         match kind {
             Event::POINT_BEGIN => Event::POINT_BEGIN_USES,
@@ -207,7 +207,7 @@ impl Event {
 
     // Whether each field that is not used, and each value that is not present, is zero. What does not use idx is no kind.
     pub fn keeps(self, uses: Uses) -> bool
-        ensures { result ≡ keepsUses self uses }
+        ensures { result ≡ keeps_uses self uses }
     {
         let present = self.present;
         let values = uses.present;
@@ -226,7 +226,7 @@ impl Event {
 
     // Whether it is a begin that sets no type: of a line, a polygon or a triangle, and not tagged.
     pub fn is_quiet(self) -> bool
-        ensures { result ≡ isQuiet self }
+        ensures { result ≡ is_quiet self }
     {
         let kind = self.kind;
         ((kind == Event::LINE_STRING_BEGIN)
@@ -237,7 +237,7 @@ impl Event {
 
     // A begin or an end, of which one that sets no type is told from the others.
     pub fn told_frame(self) -> Heard
-        ensures { result ≡ cond (isQuiet self) Heard.Quiet (Heard.Other self) }
+        ensures { result ≡ cond (is_quiet self) Heard.Quiet (Heard.Other self) }
     {
         if self.is_quiet() {
             Heard::Quiet
@@ -262,7 +262,7 @@ impl Event {
     };
 
     pub fn begin(kind: u8, tagged: bool, size: u32, idx: u32) -> Event
-        ensures { result ≡ beginE kind tagged size idx }
+        ensures { result ≡ begin_e kind tagged size idx }
     {
         let mut e = Event::UNSET;
         e.kind = kind;
@@ -275,7 +275,7 @@ impl Event {
     // The end of a geometry of a type.
     pub fn end(kind: u8, tagged: bool, idx: u32) -> Event
         requires { kind < 32 }
-        ensures { result ≡ endE kind tagged idx }
+        ensures { result ≡ end_e kind tagged idx }
     {
         let mut e = Event::UNSET;
         e.kind = kind + Event::END;
@@ -285,7 +285,7 @@ impl Event {
     }
 
     pub fn xy(x: u64, y: u64, idx: u32) -> Event
-        ensures { result ≡ xyE x y idx }
+        ensures { result ≡ xy_e x y idx }
     {
         let mut e = Event::UNSET;
         e.kind = Event::XY;
@@ -305,7 +305,7 @@ impl Event {
         tm: u64,
         idx: u32,
     ) -> Event
-        ensures { result ≡ coordinateE x y present z m t tm idx }
+        ensures { result ≡ coordinate_e x y present z m t tm idx }
     {
         let mut e = Event::UNSET;
         e.kind = Event::COORDINATE;
@@ -323,7 +323,7 @@ impl Event {
 
 pub fn bit_set(bits: u8, bit: u8) -> bool
     requires { 0 < bit }
-    ensures { result ≡ bitSet bits bit }
+    ensures { result ≡ bit_set bits bit }
 {
     bits / bit % 2 == 1
 }

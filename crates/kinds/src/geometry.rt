@@ -1,6 +1,6 @@
 // A geometry record, its lists as stretches of the lent pools: no layout shows.
 ghost use Rattle.std.specs.Prelude.{◌≡◌};
-ghost use Rattle.kinds.specs.Lanes.{lentWords};
+ghost use Rattle.kinds.specs.Lanes.{lent_words};
 
 // Where a list stands in its pool.
 #[derive(Drop)]
@@ -42,7 +42,7 @@ pub struct Lent {
 
 impl Lent {
     pub fn new(xy: usize, ends: usize, z: usize, m: usize, t: usize, tm: usize) -> Lent
-        ensures { result ≡ lentWords xy ends z m t tm }
+        ensures { result ≡ lent_words xy ends z m t tm }
     {
         Lent {
             xy,

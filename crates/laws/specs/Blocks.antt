@@ -4,7 +4,7 @@ use Rattle.std.proofs.Common.{sym, ap, ◌∙◌, append_assoc, arith, mul-suc, 
 use Rattle.std.proofs.Math.Decide.{dec_lt}
 use Rattle.std.proofs.lemmas.List.Edits.{sets}
 use Rattle.std.proofs.lemmas.List.{take-append-le, drop-append-le}
-use Rattle.laws.specs.Runs.{sets-split, drop-sets}
+use Rattle.laws.specs.Runs.{sets_split, drop-sets}
 
 -- block n of a list, each w long
 abbrev pub block : ℕ → List ℕ → ℕ → List ℕ
@@ -20,7 +20,7 @@ module _ (w : ℕ) (l v : List ℕ) (n : ℕ) (long : length v ≡ w) (room : w 
 
   pub block_same : block w (sets l (w * n) v) n ≡ v
   block_same =
-      ap (λ (x : List ℕ). take w (drop (w * n) x)) (sets-split l v (w * n) fits ∙ append_assoc (take (w * n) l) v _)
+      ap (λ (x : List ℕ). take w (drop (w * n) x)) (sets_split l v (w * n) fits ∙ append_assoc (take (w * n) l) v _)
       ∙ ap (take w) (drop_at (take (w * n) l) _ (w * n) front)
       ∙ take_at v _ w long
 
@@ -47,7 +47,7 @@ module _ (w : ℕ) (l v : List ℕ) (n : ℕ) (long : length v ≡ w) (room : w 
     where
       go : Dec (m < n) → block w (sets l (w * n) v) m ≡ block w l m
       go (yes a) =
-          ap (λ (x : List ℕ). block w x m) (sets-split l v (w * n) fits ∙ append_assoc (take (w * n) l) v _)
+          ap (λ (x : List ℕ). block w x m) (sets_split l v (w * n) fits ∙ append_assoc (take (w * n) l) v _)
           ∙ below m _ a
           ∙ sym (ap (λ (x : List ℕ). block w x m) (sym (take-append-drop (w * n) l)) ∙ below m _ a)
       go (no a) = ap (take w) (above m (omega arith))

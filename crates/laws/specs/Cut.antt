@@ -14,32 +14,32 @@ use Rattle.laws.specs.Script.{Script, stop, say, out, Format, room_at, put, run}
 
 module _ {A : Type 0} where
   -- the records that a script says, and its number
-  unfoldable pub recordsOf : Script A → List A
-  recordsOf (stop c) = []
-  recordsOf (say a s) = a ∷ recordsOf s
+  unfoldable pub records_of : Script A → List A
+  records_of (stop c) = []
+  records_of (say a s) = a ∷ records_of s
 
   unfoldable pub number_of : Script A → ℕ
   number_of (stop c) = c
   number_of (say a s) = number_of s
 
 -- how many records of a log may be used
-unfoldable pub roomOf : ℕ → List ℕ → ℕ
-roomOf wide L = min (length L / wide) 1048576
+unfoldable pub room_of : ℕ → List ℕ → ℕ
+room_of wide L = min (length L / wide) 1048576
 
-room-yes : (w : ℕ) (L : List ℕ) (n : ℕ) → n < roomOf w L → room_at w L n ≡ true
-unfolding room_at roomOf
+room-yes : (w : ℕ) (L : List ℕ) (n : ℕ) → n < room_of w L → room_at w L n ≡ true
+unfolding room_at room_of
 room-yes w L n h = rw (lt-ltb n 1048576 (omega arith), lt-ltb n (length L / w) (omega arith))
 
-room-no : (w : ℕ) (L : List ℕ) (n : ℕ) → roomOf w L ≤ n → room_at w L n ≡ false
-unfolding room_at roomOf
-room-no w L n h = go (ltb n 1048576) refl
+room_no : (w : ℕ) (L : List ℕ) (n : ℕ) → room_of w L ≤ n → room_at w L n ≡ false
+unfolding room_at room_of
+room_no w L n h = go (ltb n 1048576) refl
   where
     go : (b : Bool) → ltb n 1048576 ≡ b → (b && ltb n (length L / w)) ≡ false
     go true e = le-ltb n (length L / w) (omega (arith, ltb-true n 1048576 e))
     go false e = refl
 
-same-room : (w : ℕ) (L M : List ℕ) {n : ℕ} → length M ≡ length L → n ≡ roomOf w L → n ≡ roomOf w M
-unfolding roomOf
+same-room : (w : ℕ) (L M : List ℕ) {n : ℕ} → length M ≡ length L → n ≡ room_of w L → n ≡ room_of w M
+unfolding room_of
 same-room w L M e h = rw e h
 
 module _ {A : Type 0} (F : Format A) where
@@ -53,21 +53,21 @@ module _ {A : Type 0} (F : Format A) where
   written L n (a ∷ rest) = written (put F L n a) (n + 1) rest
 
   -- k records are free from n on
-  pub cut : (s : Script A) (L : List ℕ) (n k : ℕ) → n + k ≡ roomOf F.wide L
-      → run F s L n ≡ out (cond (leb (length (recordsOf s)) k) (number_of s) 9) (n + length (take k (recordsOf s))) (written L n (take k (recordsOf s)))
-  unfolding run recordsOf number_of written
+  pub cut : (s : Script A) (L : List ℕ) (n k : ℕ) → n + k ≡ room_of F.wide L
+      → run F s L n ≡ out (cond (leb (length (records_of s)) k) (number_of s) 9) (n + length (take k (records_of s))) (written L n (take k (records_of s)))
+  unfolding run records_of number_of written
   cut (stop c) L n k h =
       let z : n ≡ n + 0 = omega arith in
       rw (take-nil k, leb-zero) (ap (λ (m : ℕ). out c m L) z)
   cut (say a s) L n zero h =
       let z : n ≡ n + 0 = omega arith in
-      rw (room-no F.wide L n (omega arith), leb-suc-zero) (ap (λ (m : ℕ). out 9 m L) z)
+      rw (room_no F.wide L n (omega arith), leb-suc-zero) (ap (λ (m : ℕ). out 9 m L) z)
   cut (say a s) L n (suc k) h =
-      let m : ℕ = length (take k (recordsOf s)) in
+      let m : ℕ = length (take k (records_of s)) in
       let z : n + 1 + m ≡ n + suc m = omega arith in
       rw (room-yes F.wide L n (omega arith), leb-suc-suc)
       (cut s (put F L n a) (n + 1) k (same-room F.wide L (put F L n a) (length-put L n a) (omega arith))
-      ∙ ap (λ (j : ℕ). out (cond (leb (length (recordsOf s)) k) (number_of s) 9) j (written (put F L n a) (n + 1) (take k (recordsOf s)))) z)
+      ∙ ap (λ (j : ℕ). out (cond (leb (length (records_of s)) k) (number_of s) 9) j (written (put F L n a) (n + 1) (take k (records_of s)))) z)
 
   -- the bytes of records, one after the other
   unfoldable pub bytes_of : List A → List ℕ
@@ -106,21 +106,21 @@ module _ {A : Type 0} (F : Format A) where
 
   -- ---- a whole run, from the start of a log: number, count and every byte follow from the script and the log
   pub record Said (s : Script A) (L : List ℕ) (number count : ℕ) (M : List ℕ) : Type 0 where
-    pub number_is : number ≡ cond (leb (length (recordsOf s)) (roomOf F.wide L)) (number_of s) 9
-    pub count-is : count ≡ length (take (roomOf F.wide L) (recordsOf s))
-    pub log_is : M ≡ bytes_of (take (roomOf F.wide L) (recordsOf s)) ++ drop (F.wide * count) L
+    pub number_is : number ≡ cond (leb (length (records_of s)) (room_of F.wide L)) (number_of s) 9
+    pub count-is : count ≡ length (take (room_of F.wide L) (records_of s))
+    pub log_is : M ≡ bytes_of (take (room_of F.wide L) (records_of s)) ++ drop (F.wide * count) L
 
-  room_fits : (L : List ℕ) (k : ℕ) → k ≤ roomOf F.wide L → F.wide * k ≤ length L
-  unfolding roomOf
+  room_fits : (L : List ℕ) (k : ℕ) → k ≤ room_of F.wide L → F.wide * k ≤ length L
+  unfolding room_of
   room_fits L k h = rw (mul_comm F.wide k) ((le-div_iff_mul-le F.some).0 (omega arith))
 
   pub said : {s : Script A} {L : List ℕ} {number count : ℕ} {M : List ℕ} → run F s L 0 ≡ out number count M → Said s L number count M
   said {s} {L} {number} {count} {M} h =
-      let rs : List A = take (roomOf F.wide L) (recordsOf s) in
-      let z : 0 + roomOf F.wide L ≡ roomOf F.wide L = omega arith in
-      let short : length rs ≤ roomOf F.wide L = omega (arith, length-take (roomOf F.wide L) (recordsOf s)) in
+      let rs : List A = take (room_of F.wide L) (records_of s) in
+      let z : 0 + room_of F.wide L ≡ room_of F.wide L = omega arith in
+      let short : length rs ≤ room_of F.wide L = omega (arith, length-take (room_of F.wide L) (records_of s)) in
       let n : 0 + length rs ≡ length rs = omega arith in
-      let e = sym h ∙ cut s L 0 (roomOf F.wide L) z in
+      let e = sym h ∙ cut s L 0 (room_of F.wide L) z in
       let k : count ≡ 0 + length rs = cc in
       record {
         number_is = cc;
@@ -131,15 +131,15 @@ module _ {A : Type 0} (F : Format A) where
   -- from a log with room for all of it: the script's own number, every record, and the rest of the log untouched
   pub record Whole (s : Script A) (L : List ℕ) (number count : ℕ) (M : List ℕ) : Type 0 where
     pub number_is : number ≡ number_of s
-    pub count-is : count ≡ length (recordsOf s)
-    pub log_is : M ≡ bytes_of (recordsOf s) ++ drop (F.wide * length (recordsOf s)) L
+    pub count-is : count ≡ length (records_of s)
+    pub log_is : M ≡ bytes_of (records_of s) ++ drop (F.wide * length (records_of s)) L
 
-  pub said-whole : (s : Script A) (L : List ℕ) (number count : ℕ) (M : List ℕ) → length (recordsOf s) ≤ roomOf F.wide L → Said s L number count M → Whole s L number count M
-  said-whole s L number count M room said =
-      let all : take (roomOf F.wide L) (recordsOf s) ≡ recordsOf s = take_all (roomOf F.wide L) (recordsOf s) room in
-      let count-is : count ≡ length (recordsOf s) = said.count-is ∙ rw all in
+  pub said_whole : (s : Script A) (L : List ℕ) (number count : ℕ) (M : List ℕ) → length (records_of s) ≤ room_of F.wide L → Said s L number count M → Whole s L number count M
+  said_whole s L number count M room said =
+      let all : take (room_of F.wide L) (records_of s) ≡ records_of s = take_all (room_of F.wide L) (records_of s) room in
+      let count-is : count ≡ length (records_of s) = said.count-is ∙ rw all in
       record {
-        number_is = said.number_is ∙ rw (le-leb (length (recordsOf s)) (roomOf F.wide L) room);
+        number_is = said.number_is ∙ rw (le-leb (length (records_of s)) (room_of F.wide L) room);
         count-is = count-is;
         log_is = said.log_is ∙ rw (all, count-is);
       }

@@ -25,39 +25,39 @@ four l i a b c d =
     rw (e, f, g)
 
 -- a run as long as the list leaves nothing of it
-pub sets-whole : (l vs : List ℕ) → length l ≡ length vs → sets l 0 vs ≡ vs
-sets-whole l vs e =
+pub sets_whole : (l vs : List ℕ) → length l ≡ length vs → sets l 0 vs ≡ vs
+sets_whole l vs e =
     let h : 0 + length vs ≤ length l = omega arith in
     let z : 0 + length vs ≡ length vs = omega arith in
     let k : length l ≤ length vs = omega arith in
     sets-eq vs l 0 h ∙ rw (z, drop_of_length-le l k) (append-nil vs)
 
 module _ (l vs : List ℕ) (i : ℕ) (room : i + length vs ≤ length l) where
-  pub sets-split : sets l i vs ≡ (take i l ++ vs) ++ drop (i + length vs) l
-  sets-split = sets-eq vs l i room
+  pub sets_split : sets l i vs ≡ (take i l ++ vs) ++ drop (i + length vs) l
+  sets_split = sets-eq vs l i room
 
   front : length (take i l ++ vs) ≡ i + length vs
   front = length-append (take i l) vs ∙ ap (λ (n : ℕ). n + length vs) (length-take-le i l (omega arith))
 
   pub take-sets : take (i + length vs) (sets l i vs) ≡ take i l ++ vs
-  take-sets = ap (take (i + length vs)) sets-split ∙ take_at (take i l ++ vs) (drop (i + length vs) l) (i + length vs) front
+  take-sets = ap (take (i + length vs)) sets_split ∙ take_at (take i l ++ vs) (drop (i + length vs) l) (i + length vs) front
 
   pub drop-sets : drop (i + length vs) (sets l i vs) ≡ drop (i + length vs) l
-  drop-sets = ap (drop (i + length vs)) sets-split ∙ drop_at (take i l ++ vs) (drop (i + length vs) l) (i + length vs) front
+  drop-sets = ap (drop (i + length vs)) sets_split ∙ drop_at (take i l ++ vs) (drop (i + length vs) l) (i + length vs) front
 
   -- what a part lent from i up to `end` leaves, once the part holds vs
-  pub lent-part : (end : ℕ) → end ≡ i + length vs → take i l ++ (vs ++ drop (end - i) (drop i l)) ≡ sets l i vs
-  lent-part end e =
+  pub lent_part : (end : ℕ) → end ≡ i + length vs → take i l ++ (vs ++ drop (end - i) (drop i l)) ≡ sets l i vs
+  lent_part end e =
       let n : end - i ≡ length vs = omega arith in
-      sym (sets-split ∙ append_assoc (take i l) vs (drop (i + length vs) l) ∙ rw (n, ← (drop-drop (length vs) i l)))
+      sym (sets_split ∙ append_assoc (take i l) vs (drop (i + length vs) l) ∙ rw (n, ← (drop-drop (length vs) i l)))
 
 -- a tail that was lent, once a run of stores went to its start: what `&mut l[i..]` leaves
-pub lent-tail : (l vs written : List ℕ) (i : ℕ) → i + length vs ≤ length l → written ≡ sets (take (length l - i) (drop i l)) 0 vs →
+pub lent_tail : (l vs written : List ℕ) (i : ℕ) → i + length vs ≤ length l → written ≡ sets (take (length l - i) (drop i l)) 0 vs →
     take i l ++ (written ++ drop (length l - i) (drop i l)) ≡ sets l i vs
-lent-tail l vs written i room e =
+lent_tail l vs written i room e =
     let n : length (drop i l) ≡ length l - i = length-drop i l in
     let short : length (drop i l) ≤ length l - i = omega arith in
     let within : 0 + length vs ≤ length (drop i l) = omega arith in
     let start : 0 + length vs ≡ length vs = omega arith in
-    rw (e, take_all (length l - i) (drop i l) short, drop_of_length-le (drop i l) short, append-nil, sets-split (drop i l) vs 0 within, start, drop-drop)
-    (sym (sets-split l vs i room ∙ append_assoc (take i l) vs (drop (i + length vs) l)))
+    rw (e, take_all (length l - i) (drop i l) short, drop_of_length-le (drop i l) short, append-nil, sets_split (drop i l) vs 0 within, start, drop-drop)
+    (sym (sets_split l vs i room ∙ append_assoc (take i l) vs (drop (i + length vs) l)))

@@ -37,9 +37,9 @@ pub record Format (A : Type 0) : Type 0 where
 unfoldable pub room_at : ℕ → List ℕ → ℕ → Bool
 room_at wide L n = ltb n 1048576 && ltb n (length L / wide)
 
-pub room_in : (wide : ℕ) (L : List ℕ) (n : ℕ) → room_at wide L n ≡ true → (n < 1048576) × (n < length L / wide)
+pub room_in_lem : (wide : ℕ) (L : List ℕ) (n : ℕ) → room_at wide L n ≡ true → (n < 1048576) × (n < length L / wide)
 unfolding room_at
-room_in wide L n h =
+room_in_lem wide L n h =
     let t = both (ltb n 1048576) (ltb n (length L / wide)) h in
     (ltb-true n 1048576 t.0, ltb-true n (length L / wide) t.1)
 
@@ -52,16 +52,16 @@ module _ {A : Type 0} (F : Format A) where
   run (stop c) L n = out c n L
   run (say a s) L n = cond (room_at F.wide L n) (run s (put L n a) (n + 1)) (out 9 n L)
 
-  pub run-stop : (c : ℕ) (L : List ℕ) (n : ℕ) → run (stop c) L n ≡ out c n L
+  pub run_stop : (c : ℕ) (L : List ℕ) (n : ℕ) → run (stop c) L n ≡ out c n L
   unfolding run
-  run-stop c L n = refl
+  run_stop c L n = refl
 
   -- the first is done: what follows is the second's
-  pub seq-done : (s t : Script A) (L : List ℕ) (n : ℕ) {n' : ℕ} {L' : List ℕ} → run s L n ≡ out 0 n' L' → run (s ⨟ t) L n ≡ run t L' n'
+  pub seq_done : (s t : Script A) (L : List ℕ) (n : ℕ) {n' : ℕ} {L' : List ℕ} → run s L n ≡ out 0 n' L' → run (s ⨟ t) L n ≡ run t L' n'
   unfolding run ◌⨟◌
-  seq-done (stop zero) t L n e = cc
-  seq-done (stop (suc c)) t L n e = let z : suc c ≡ 0 = cc in absurd (omega arith)
-  seq-done (say a s) t L n {n'} {L'} h = go (room_at F.wide L n) (λ k. seq-done s t (put L n a) (n + 1) k) h
+  seq_done (stop zero) t L n e = cc
+  seq_done (stop (suc c)) t L n e = let z : suc c ≡ 0 = cc in absurd (omega arith)
+  seq_done (say a s) t L n {n'} {L'} h = go (room_at F.wide L n) (λ k. seq_done s t (put L n a) (n + 1) k) h
     where
       go : (b : Bool) → (run s (put L n a) (n + 1) ≡ out 0 n' L' → run (s ⨟ t) (put L n a) (n + 1) ≡ run t L' n')
           → cond b (run s (put L n a) (n + 1)) (out 9 n L) ≡ out 0 n' L' → cond b (run (s ⨟ t) (put L n a) (n + 1)) (out 9 n L) ≡ run t L' n'
@@ -69,11 +69,11 @@ module _ {A : Type 0} (F : Format A) where
       go false f h = let z : ◌≡◌ {A = ℕ} 9 0 = cc in absurd (omega arith)
 
   -- the first refuses, and that is all
-  pub seq-refused : (s t : Script A) (L : List ℕ) (n : ℕ) {c n' : ℕ} {L' : List ℕ} → run s L n ≡ out c n' L' → (c ≡ 0 → ⊥) → run (s ⨟ t) L n ≡ out c n' L'
+  pub seq_refused : (s t : Script A) (L : List ℕ) (n : ℕ) {c n' : ℕ} {L' : List ℕ} → run s L n ≡ out c n' L' → (c ≡ 0 → ⊥) → run (s ⨟ t) L n ≡ out c n' L'
   unfolding run ◌⨟◌
-  seq-refused (stop zero) t L n {c} e r = let z : c ≡ 0 = cc in absurd (r z)
-  seq-refused (stop (suc c)) t L n e r = e
-  seq-refused (say a s) t L n {c} {n'} {L'} h r = go (room_at F.wide L n) (λ k. seq-refused s t (put L n a) (n + 1) k r) h
+  seq_refused (stop zero) t L n {c} e r = let z : c ≡ 0 = cc in absurd (r z)
+  seq_refused (stop (suc c)) t L n e r = e
+  seq_refused (say a s) t L n {c} {n'} {L'} h r = go (room_at F.wide L n) (λ k. seq_refused s t (put L n a) (n + 1) k r) h
     where
       go : (b : Bool) → (run s (put L n a) (n + 1) ≡ out c n' L' → run (s ⨟ t) (put L n a) (n + 1) ≡ out c n' L')
           → cond b (run s (put L n a) (n + 1)) (out 9 n L) ≡ out c n' L' → cond b (run (s ⨟ t) (put L n a) (n + 1)) (out 9 n L) ≡ out c n' L'
@@ -81,18 +81,18 @@ module _ {A : Type 0} (F : Format A) where
       go false f h = h
 
   -- one record: the log has no room, or has
-  pub one-full : (a : A) (L : List ℕ) (n : ℕ) → room_at F.wide L n ≡ false → run (one a) L n ≡ out 9 n L
+  pub one_full : (a : A) (L : List ℕ) (n : ℕ) → room_at F.wide L n ≡ false → run (one a) L n ≡ out 9 n L
   unfolding run
-  one-full a L n h = rw h
+  one_full a L n h = rw h
 
   pub one-put : (a : A) (L : List ℕ) (n : ℕ) → room_at F.wide L n ≡ true → run (one a) L n ≡ out 0 (n + 1) (put L n a)
   unfolding run
   one-put a L n h = rw h
 
   -- nothing but a full log refuses one record
-  pub one-nine : (a : A) (L : List ℕ) (n : ℕ) {c n' : ℕ} {L' : List ℕ} → run (one a) L n ≡ out c n' L' → (c ≡ 0 → ⊥) → c ≡ 9
+  pub one_nine : (a : A) (L : List ℕ) (n : ℕ) {c n' : ℕ} {L' : List ℕ} → run (one a) L n ≡ out c n' L' → (c ≡ 0 → ⊥) → c ≡ 9
   unfolding run
-  one-nine a L n {c} {n'} {L'} h r = go (room_at F.wide L n) h
+  one_nine a L n {c} {n'} {L'} h r = go (room_at F.wide L n) h
     where
       go : (b : Bool) → cond b (out 0 (n + 1) (put L n a)) (out 9 n L) ≡ out c n' L' → c ≡ 9
       go true h = let z : c ≡ 0 = cc in absurd (r z)

@@ -3,7 +3,7 @@ use Rattle.std.specs.Prelude.{cond, List, [], ◌∷◌, ℕ, ◌+◌, length, l
 use Rattle.std.proofs.Math.Option.{Option}
 use Rattle.kinds.specs.declared.flags.Flags.{Flags}
 use Rattle.geometries.specs.Coordinate.{is}
-use Rattle.geometries.specs.Geometry.{Coord, Line, Rings, Simple, point, lineString, polygon, multiPoint, multiLineString, multiPolygon, circularString, compoundCurve, curvePolygon, multiCurve, multiSurface, polyhedralSurface, tin, triangle}
+use Rattle.geometries.specs.Geometry.{Coord, Line, Rings, Simple, point, line_string, polygon, multi_point, multi_line_string, multi_polygon, circular_string, compound_curve, curve_polygon, multi_curve, multi_surface, polyhedral_surface, tin, triangle}
 use Rattle.geometries.specs.Events.{shown}
 use Rattle.format.specs.Format.{joined}
 
@@ -24,29 +24,29 @@ module _ (F : Flags) where
   words c = 2 + there (shown F.z c.z) + there (shown F.m c.m) + there (shown F.t c.t) + there (shown F.tm c.tm)
 
   -- a record with its pairs, or its lines
-  abbrev pub ofPairs : List Coord → ℕ
-  ofPairs cs = 1 + sum words cs
+  abbrev pub of_pairs : List Coord → ℕ
+  of_pairs cs = 1 + sum words cs
 
-  abbrev pub ofLines : List Line → ℕ
-  ofLines ls = ofPairs (joined ls) + ends ls
+  abbrev pub of_lines : List Line → ℕ
+  of_lines ls = of_pairs (joined ls) + ends ls
 
   -- a root, and a record for each polygon
-  abbrev pub ofPolygons : List Rings → ℕ
-  ofPolygons ps = 1 + sum ofLines ps
+  abbrev pub of_polygons : List Rings → ℕ
+  of_polygons ps = 1 + sum of_lines ps
 
   -- 0, no bound, for the four types whose elements the writer makes no parts of
-  unfoldable pub leastOf : Simple → ℕ
-  leastOf (point c) = ofPairs (c ∷ [])
-  leastOf (lineString l) = ofPairs l
-  leastOf (polygon rs) = ofLines rs
-  leastOf (multiPoint cs) = ofPairs cs
-  leastOf (multiLineString ls) = ofLines ls
-  leastOf (multiPolygon ps) = ofPolygons ps
-  leastOf (circularString l) = ofPairs l
-  leastOf (compoundCurve ss) = 0
-  leastOf (curvePolygon cs) = 0
-  leastOf (multiCurve cs) = 0
-  leastOf (multiSurface ss) = 0
-  leastOf (polyhedralSurface ps) = ofPolygons ps
-  leastOf (tin ts) = ofLines ts
-  leastOf (triangle l) = ofLines (l ∷ [])
+  unfoldable pub least_of : Simple → ℕ
+  least_of (point c) = of_pairs (c ∷ [])
+  least_of (line_string l) = of_pairs l
+  least_of (polygon rs) = of_lines rs
+  least_of (multi_point cs) = of_pairs cs
+  least_of (multi_line_string ls) = of_lines ls
+  least_of (multi_polygon ps) = of_polygons ps
+  least_of (circular_string l) = of_pairs l
+  least_of (compound_curve ss) = 0
+  least_of (curve_polygon cs) = 0
+  least_of (multi_curve cs) = 0
+  least_of (multi_surface ss) = 0
+  least_of (polyhedral_surface ps) = of_polygons ps
+  least_of (tin ts) = of_lines ts
+  least_of (triangle l) = of_lines (l ∷ [])

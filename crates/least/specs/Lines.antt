@@ -11,23 +11,23 @@ use Rattle.std.proofs.Math.ListN.{length}
 use borrow.Author.Tests.{ltb-false}
 use Rattle.laws.specs.Every.{neither}
 use Rattle.laws.specs.Script.{Script, stop, say, ◌⨟◌}
-use Rattle.laws.specs.Framed.{framed, seq-seq}
-use Rattle.kinds.specs.Event.{beginE, endE}
+use Rattle.laws.specs.Framed.{framed, seq_seq}
+use Rattle.kinds.specs.Event.{begin_e, end_e}
 use Rattle.kinds.specs.declared.event.Event.{Event}
 use Rattle.kinds.specs.declared.flags.Flags.{Flags}
 use Rattle.geometries.specs.Coordinate.{multi}
-use Rattle.coords.specs.Coords.{Lanes, Coords, betweenS}
-use Rattle.lines.specs.Lines.{single, badEnd, stretchS, linesS, flatS, ringsS, stretchesS, ifThere, multiLineS, triangleAt, trianglesS, triangleS, tinS}
+use Rattle.coords.specs.Coords.{Lanes, Coords, between_s}
+use Rattle.lines.specs.Lines.{single, bad_end, stretch_s, lines_s, flat_s, rings_s, stretches_s, if_there, multi_line_s, triangle_at, triangles_s, triangle_s, tin_s}
 use Rattle.geometries.specs.Geometry.{Line}
-use Rattle.geometries.specs.Events.{each, group, line_of, triangleOf}
+use Rattle.geometries.specs.Events.{each, group, line_of, triangle_of}
 use Rattle.format.specs.Format.{joined}
 use Rattle.geometries.specs.Told.{told, then-done, framed_then}
 use Rattle.least.specs.Least.{ends}
 use Rattle.least.specs.Said.{rest, kinds, sizes, mute}
-use Rattle.least.specs.Pairs.{end_low, Room, room-none, room-join, of-between, of-flat}
+use Rattle.least.specs.Pairs.{end_low, Room, room_none, room-join, of_between, of_flat}
 
-ends-most : (ls : List Line) → ends ls ≤ length ls
-ends-most ls = go (leb (length ls) 1)
+ends_most : (ls : List Line) → ends ls ≤ length ls
+ends_most ls = go (leb (length ls) 1)
   where
     go : (b : Bool) → cond b 0 (length ls) ≤ length ls
     go true = omega arith
@@ -43,103 +43,103 @@ module _ (F : Flags) (o : Option (List ℕ)) (L : Lanes) where
     pub room : Room F o L before l
     pub after : t ≡ told k
 
-  of-stretch : (before end i : ℕ) (t : Script Event) (l : Line) (j : ℕ) (k : List Event) → stretchS C before end i ⨟ t ≡ told (line_of F l j k) → Stretch before end t l k
-  unfolding stretchS
-  of-stretch before end i t l j k h = go (badEnd before end) refl h
+  of_stretch : (before end i : ℕ) (t : Script Event) (l : Line) (j : ℕ) (k : List Event) → stretch_s C before end i ⨟ t ≡ told (line_of F l j k) → Stretch before end t l k
+  unfolding stretch_s
+  of_stretch before end i t l j k h = go (bad_end before end) refl h
     where
-      go : (bad : Bool) → badEnd before end ≡ bad → cond bad (stop 8) (framed (beginE 2 false (end - before) i) (betweenS (multi F) o L before end) (endE 2 false i)) ⨟ t ≡ told (line_of F l j k) → Stretch before end t l k
+      go : (bad : Bool) → bad_end before end ≡ bad → cond bad (stop 8) (framed (begin_e 2 false (end - before) i) (between_s (multi F) o L before end) (end_e 2 false i)) ⨟ t ≡ told (line_of F l j k) → Stretch before end t l k
       go true q h = unfold ◌⨟◌ in mute h
       go false q h =
           let g = rw framed_then at h in
-          let s = of-between F o L before end (endE 2 false i) (endE 2 false j) t k l (end_low 2 false i (omega arith)) (end_low 2 false j (omega arith)) (rest g) in
-          let size : end - before ≡ length l = unfold beginE in sizes g in
+          let s = of_between F o L before end (end_e 2 false i) (end_e 2 false j) t k l (end_low 2 false i (omega arith)) (end_low 2 false j (omega arith)) (rest g) in
+          let size : end - before ≡ length l = unfold begin_e in sizes g in
           record { end_is = omega (arith, size, ltb-false end before (neither (ltb end before) _ q).0); room = s.0; after = s.1 }
 
-  of-lines : (es : List ℕ) (before i : ℕ) (t : Script Event) (ls : List Line) (j : ℕ) (k : List Event) → length es ≡ length ls → linesS C es before i ⨟ t ≡ told (each (line_of F) ls j k) → Room F o L before (joined ls) × (t ≡ told k)
-  unfolding linesS
-  of-lines [] before i t [] j k c h = (room-none F o L before, unfold ◌⨟◌ in h)
-  of-lines [] before i t (l ∷ ls) j k c h = absurd (omega arith)
-  of-lines (e ∷ es) before i t [] j k c h = absurd (omega arith)
-  of-lines (e ∷ es) before i t (l ∷ ls) j k c h =
-      let s = of-stretch before e i _ l j _ (rw seq-seq at h) in
-      let later = of-lines es e (i + 1) t ls (j + 1) k (omega arith) s.after in
+  of_lines_lem : (es : List ℕ) (before i : ℕ) (t : Script Event) (ls : List Line) (j : ℕ) (k : List Event) → length es ≡ length ls → lines_s C es before i ⨟ t ≡ told (each (line_of F) ls j k) → Room F o L before (joined ls) × (t ≡ told k)
+  unfolding lines_s
+  of_lines_lem [] before i t [] j k c h = (room_none F o L before, unfold ◌⨟◌ in h)
+  of_lines_lem [] before i t (l ∷ ls) j k c h = absurd (omega arith)
+  of_lines_lem (e ∷ es) before i t [] j k c h = absurd (omega arith)
+  of_lines_lem (e ∷ es) before i t (l ∷ ls) j k c h =
+      let s = of_stretch before e i _ l j _ (rw seq_seq at h) in
+      let later = of_lines_lem es e (i + 1) t ls (j + 1) k (omega arith) s.after in
       (room-join F o L before e l (joined ls) s.end_is s.room later.0, later.1)
 
   -- ---- a begin, lines, an end
   pub record HasLines (es : List ℕ) (ls : List Line) (t : Script Event) (k : List Event) : Type 0 where
     pub room : Room F o L 0 (joined ls)
-    pub ends-in : ends ls ≤ length es
+    pub ends_in : ends ls ≤ length es
     pub after : t ≡ told k
 
-  pub of-stretches : (type : ℕ) (tagged : Bool) (i : ℕ) (es : List ℕ) (t : Script Event) (ls : List Line) (j : ℕ) (k : List Event) → stretchesS type tagged i C es ⨟ t ≡ told (group type tagged (line_of F) ls j k) → HasLines es ls t k
-  unfolding stretchesS ringsS flatS
-  of-stretches type tagged i es t ls j k h = go (single es) ls (rw framed_then at h)
+  pub of_stretches : (type : ℕ) (tagged : Bool) (i : ℕ) (es : List ℕ) (t : Script Event) (ls : List Line) (j : ℕ) (k : List Event) → stretches_s type tagged i C es ⨟ t ≡ told (group type tagged (line_of F) ls j k) → HasLines es ls t k
+  unfolding stretches_s rings_s flat_s
+  of_stretches type tagged i es t ls j k h = go (single es) ls (rw framed_then at h)
     where
-      go : (one : Bool) (ls : List Line) → say (beginE type tagged (cond one 1 (length es)) i) (cond one (flatS C 2 false 0) (linesS C es 0 0) ⨟ say (endE type tagged i) t) ≡ told (group type tagged (line_of F) ls j k) → HasLines es ls t k
-      go true [] h = let z : ◌≡◌ {A = ℕ} 1 0 = unfold beginE in sizes h in absurd (omega arith)
+      go : (one : Bool) (ls : List Line) → say (begin_e type tagged (cond one 1 (length es)) i) (cond one (flat_s C 2 false 0) (lines_s C es 0 0) ⨟ say (end_e type tagged i) t) ≡ told (group type tagged (line_of F) ls j k) → HasLines es ls t k
+      go true [] h = let z : ◌≡◌ {A = ℕ} 1 0 = unfold begin_e in sizes h in absurd (omega arith)
       go true (l ∷ []) h =
-          let s = of-flat F o L 2 false 0 _ _ l 0 _ (omega arith) (rest h) in
-          record { room = rw append-nil s.0; ends-in = omega arith; after = rest s.1 }
-      go true (l ∷ (n ∷ ls)) h = let z : 1 ≡ suc (suc (length ls)) = unfold beginE in sizes h in absurd (omega arith)
+          let s = of_flat F o L 2 false 0 _ _ l 0 _ (omega arith) (rest h) in
+          record { room = rw append-nil s.0; ends_in = omega arith; after = rest s.1 }
+      go true (l ∷ (n ∷ ls)) h = let z : 1 ≡ suc (suc (length ls)) = unfold begin_e in sizes h in absurd (omega arith)
       go false ls h =
-          let z : length es ≡ length ls = unfold beginE in sizes h in
-          let s = of-lines es 0 0 _ ls 0 _ z (rest h) in
-          record { room = s.0; ends-in = omega (arith, z, ends-most ls); after = rest s.1 }
+          let z : length es ≡ length ls = unfold begin_e in sizes h in
+          let s = of_lines_lem es 0 0 _ ls 0 _ z (rest h) in
+          record { room = s.0; ends_in = omega (arith, z, ends_most ls); after = rest s.1 }
 
-  there-said : (s t : Script Event) (e : Event) (S : Script Event) → (t ≡ say e S → ⊥) → ifThere o s ⨟ t ≡ say e S → s ⨟ t ≡ say e S
+  there-said : (s t : Script Event) (e : Event) (S : Script Event) → (t ≡ say e S → ⊥) → if_there o s ⨟ t ≡ say e S → s ⨟ t ≡ say e S
   there-said s t e S u h = go o h
     where
-      go : (o : Option (List ℕ)) → ifThere o s ⨟ t ≡ say e S → s ⨟ t ≡ say e S
+      go : (o : Option (List ℕ)) → if_there o s ⨟ t ≡ say e S → s ⨟ t ≡ say e S
       go none h = absurd (u (unfold ◌⨟◌ in h))
       go (some l) h = h
 
-  pub of-multi : (es : List ℕ) (ls : List Line) → multiLineS C es 0 ≡ told (group 5 false (line_of F) ls 0 []) → HasLines es ls (stop 0) []
-  unfolding multiLineS
-  of-multi es ls h = of-stretches 5 false 0 es (stop 0) ls 0 [] (go (single es) (then-done _ ∙ h))
+  pub of_multi : (es : List ℕ) (ls : List Line) → multi_line_s C es 0 ≡ told (group 5 false (line_of F) ls 0 []) → HasLines es ls (stop 0) []
+  unfolding multi_line_s
+  of_multi es ls h = of_stretches 5 false 0 es (stop 0) ls 0 [] (go (single es) (then-done _ ∙ h))
     where
-      go : (one : Bool) → cond one (ifThere o (stretchesS 5 false 0 C es)) (stretchesS 5 false 0 C es) ⨟ stop 0 ≡ told (group 5 false (line_of F) ls 0 []) → stretchesS 5 false 0 C es ⨟ stop 0 ≡ told (group 5 false (line_of F) ls 0 [])
+      go : (one : Bool) → cond one (if_there o (stretches_s 5 false 0 C es)) (stretches_s 5 false 0 C es) ⨟ stop 0 ≡ told (group 5 false (line_of F) ls 0 []) → stretches_s 5 false 0 C es ⨟ stop 0 ≡ told (group 5 false (line_of F) ls 0 [])
       go true h = there-said _ (stop 0) _ _ (λ e. mute e) h
       go false h = h
 
   -- ---- triangles
-  of-triangle : (tagged : Bool) (before end i : ℕ) (t : Script Event) (l : Line) (j : ℕ) (k : List Event) → triangleAt C tagged before end i ⨟ t ≡ told (triangleOf F tagged l j k) → Stretch before end t l k
-  unfolding triangleAt
-  of-triangle tagged before end i t l j k h =
-      let s = of-stretch before end 0 _ l 0 _ (rest (rw framed_then at h)) in
+  of_triangle_lem : (tagged : Bool) (before end i : ℕ) (t : Script Event) (l : Line) (j : ℕ) (k : List Event) → triangle_at C tagged before end i ⨟ t ≡ told (triangle_of F tagged l j k) → Stretch before end t l k
+  unfolding triangle_at
+  of_triangle_lem tagged before end i t l j k h =
+      let s = of_stretch before end 0 _ l 0 _ (rest (rw framed_then at h)) in
       record { end_is = s.end_is; room = s.room; after = rest s.after }
 
-  of-triangles : (es : List ℕ) (before i : ℕ) (t : Script Event) (ls : List Line) (j : ℕ) (k : List Event) → length es ≡ length ls → trianglesS C es false before i ⨟ t ≡ told (each (triangleOf F false) ls j k) → Room F o L before (joined ls)
-  unfolding trianglesS
-  of-triangles [] before i t [] j k c h = room-none F o L before
-  of-triangles [] before i t (l ∷ ls) j k c h = absurd (omega arith)
-  of-triangles (e ∷ es) before i t [] j k c h = absurd (omega arith)
-  of-triangles (e ∷ es) before i t (l ∷ ls) j k c h =
-      let s = of-triangle false before e i _ l j _ (rw seq-seq at h) in
-      room-join F o L before e l (joined ls) s.end_is s.room (of-triangles es e (i + 1) t ls (j + 1) k (omega arith) s.after)
+  of_triangles : (es : List ℕ) (before i : ℕ) (t : Script Event) (ls : List Line) (j : ℕ) (k : List Event) → length es ≡ length ls → triangles_s C es false before i ⨟ t ≡ told (each (triangle_of F false) ls j k) → Room F o L before (joined ls)
+  unfolding triangles_s
+  of_triangles [] before i t [] j k c h = room_none F o L before
+  of_triangles [] before i t (l ∷ ls) j k c h = absurd (omega arith)
+  of_triangles (e ∷ es) before i t [] j k c h = absurd (omega arith)
+  of_triangles (e ∷ es) before i t (l ∷ ls) j k c h =
+      let s = of_triangle_lem false before e i _ l j _ (rw seq_seq at h) in
+      room-join F o L before e l (joined ls) s.end_is s.room (of_triangles es e (i + 1) t ls (j + 1) k (omega arith) s.after)
 
   -- the whole list as one
-  of-only : (tagged : Bool) (es : List ℕ) (t : Script Event) (l : Line) (k : List Event) → (t ≡ told (triangleOf F tagged l 0 k) → ⊥) → ifThere o (stretchesS 17 tagged 0 C es) ⨟ t ≡ told (triangleOf F tagged l 0 k) → Room F o L 0 (joined (l ∷ []))
-  of-only tagged es t l k u h = (of-stretches 17 tagged 0 es t (l ∷ []) 0 k (there-said _ t _ _ u h)).room
+  of_only : (tagged : Bool) (es : List ℕ) (t : Script Event) (l : Line) (k : List Event) → (t ≡ told (triangle_of F tagged l 0 k) → ⊥) → if_there o (stretches_s 17 tagged 0 C es) ⨟ t ≡ told (triangle_of F tagged l 0 k) → Room F o L 0 (joined (l ∷ []))
+  of_only tagged es t l k u h = (of_stretches 17 tagged 0 es t (l ∷ []) 0 k (there-said _ t _ _ u h)).room
 
-  pub of-one-triangle : (es : List ℕ) (l : Line) → triangleS C es true 0 ≡ told (triangleOf F true l 0 []) → Room F o L 0 (joined (l ∷ []))
-  unfolding triangleS trianglesS
-  of-one-triangle es l h = go es (single es) (then-done _ ∙ h)
+  pub of_one_triangle : (es : List ℕ) (l : Line) → triangle_s C es true 0 ≡ told (triangle_of F true l 0 []) → Room F o L 0 (joined (l ∷ []))
+  unfolding triangle_s triangles_s
+  of_one_triangle es l h = go es (single es) (then-done _ ∙ h)
     where
-      go : (fs : List ℕ) (one : Bool) → cond one (ifThere o (stretchesS 17 true 0 C es)) (trianglesS C fs true 0 0) ⨟ stop 0 ≡ told (triangleOf F true l 0 []) → Room F o L 0 (joined (l ∷ []))
-      go fs true h = of-only true es (stop 0) l [] (λ e. mute e) h
+      go : (fs : List ℕ) (one : Bool) → cond one (if_there o (stretches_s 17 true 0 C es)) (triangles_s C fs true 0 0) ⨟ stop 0 ≡ told (triangle_of F true l 0 []) → Room F o L 0 (joined (l ∷ []))
+      go fs true h = of_only true es (stop 0) l [] (λ e. mute e) h
       go [] false h = unfold ◌⨟◌ in mute h
-      go (f ∷ fs) false h = rw append-nil (of-triangle true 0 f 0 _ l 0 _ (rw seq-seq at h)).room
+      go (f ∷ fs) false h = rw append-nil (of_triangle_lem true 0 f 0 _ l 0 _ (rw seq_seq at h)).room
 
-  pub of-tin : (es : List ℕ) (ls : List Line) → tinS C es 0 ≡ told (group 16 false (triangleOf F false) ls 0 []) → Room F o L 0 (joined ls) × (ends ls ≤ length es)
-  unfolding tinS triangleS
-  of-tin es ls h = go (single es) ls (rw framed_then at (then-done _ ∙ h))
+  pub of_tin_lem : (es : List ℕ) (ls : List Line) → tin_s C es 0 ≡ told (group 16 false (triangle_of F false) ls 0 []) → Room F o L 0 (joined ls) × (ends ls ≤ length es)
+  unfolding tin_s triangle_s
+  of_tin_lem es ls h = go (single es) ls (rw framed_then at (then-done _ ∙ h))
     where
-      go : (one : Bool) (ls : List Line) → say (beginE 16 false (cond one 1 (length es)) 0) (cond one (ifThere o (stretchesS 17 false 0 C es)) (trianglesS C es false 0 0) ⨟ say (endE 16 false 0) (stop 0)) ≡ told (group 16 false (triangleOf F false) ls 0 []) → Room F o L 0 (joined ls) × (ends ls ≤ length es)
-      go true [] h = let z : ◌≡◌ {A = ℕ} 1 0 = unfold beginE in sizes h in absurd (omega arith)
+      go : (one : Bool) (ls : List Line) → say (begin_e 16 false (cond one 1 (length es)) 0) (cond one (if_there o (stretches_s 17 false 0 C es)) (triangles_s C es false 0 0) ⨟ say (end_e 16 false 0) (stop 0)) ≡ told (group 16 false (triangle_of F false) ls 0 []) → Room F o L 0 (joined ls) × (ends ls ≤ length es)
+      go true [] h = let z : ◌≡◌ {A = ℕ} 1 0 = unfold begin_e in sizes h in absurd (omega arith)
       go true (l ∷ []) h =
-          let no-begin : say (endE 16 false 0) (stop 0) ≡ told (triangleOf F false l 0 (endE 16 false 0 ∷ [])) → ⊥ = λ e. let z : ◌≡◌ {A = ℕ} 48 17 = unfold beginE endE in kinds e in omega arith in
-          (of-only false es _ l _ no-begin (rest h), omega arith)
-      go true (l ∷ (n ∷ ls)) h = let z : 1 ≡ suc (suc (length ls)) = unfold beginE in sizes h in absurd (omega arith)
+          let no_begin : say (end_e 16 false 0) (stop 0) ≡ told (triangle_of F false l 0 (end_e 16 false 0 ∷ [])) → ⊥ = λ e. let z : ◌≡◌ {A = ℕ} 48 17 = unfold begin_e end_e in kinds e in omega arith in
+          (of_only false es _ l _ no_begin (rest h), omega arith)
+      go true (l ∷ (n ∷ ls)) h = let z : 1 ≡ suc (suc (length ls)) = unfold begin_e in sizes h in absurd (omega arith)
       go false ls h =
-          let z : length es ≡ length ls = unfold beginE in sizes h in
-          (of-triangles es 0 0 _ ls 0 _ z (rest h), omega (arith, z, ends-most ls))
+          let z : length es ≡ length ls = unfold begin_e in sizes h in
+          (of_triangles es 0 0 _ ls 0 _ z (rest h), omega (arith, z, ends_most ls))

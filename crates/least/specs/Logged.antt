@@ -5,36 +5,36 @@ use Rattle.std.proofs.Common.{subst, ◌∙◌, arith, take_all, leb-true}
 use mathlib.Core.List.{List, [], ◌∷◌, ◌++◌, append_assoc}
 use Rattle.std.proofs.Math.Seq.{take_at, drop_at}
 use Rattle.laws.specs.Script.{Script, stop, say, Format}
-use Rattle.laws.specs.Cut.{recordsOf, number_of, roomOf, bytes_of, Said}
+use Rattle.laws.specs.Cut.{records_of, number_of, room_of, bytes_of, Said}
 use Rattle.kinds.specs.Event.{WellFormed}
 use Rattle.kinds.specs.declared.event.Event.{Event}
 use Rattle.kinds.specs.declared.flags.Flags.{Flags}
-use Rattle.log.specs.Log.{events, heard, hear-said}
-use Rattle.store.specs.Lists.{Pools, recordWith}
-use Rattle.reader.specs.Reading.{readS}
+use Rattle.log.specs.Log.{events, heard, hear_said}
+use Rattle.store.specs.Lists.{Pools, record_with}
+use Rattle.reader.specs.Reading.{read_s}
 use Rattle.least.specs.Fits.{AllSaid, Fits}
 use Rattle.least.specs.Sized.{InWords, table-says}
 use Rattle.asking.specs.declared.typing.Typing.{Typing}
 use Rattle.writer_model.specs.Writer.{tree}
 use Rattle.writer_model.specs.Tree.{Holds}
 use Rattle.geometries.specs.Geometry.{Simple, type_of}
-use Rattle.geometries.specs.Events.{eventsOf}
+use Rattle.geometries.specs.Events.{events_of}
 use Rattle.geometries.specs.Told.{told, told-records, Complete}
 use Rattle.format.specs.Writable.{All, Held, Writable}
 use Rattle.format.specs.Writes.{ending}
-use Rattle.least.specs.Least.{leastOf}
-use Rattle.least.specs.Sound.{treeSize}
-use Rattle.least.specs.Smallest.{table-at-least, table-at-most}
+use Rattle.least.specs.Least.{least_of}
+use Rattle.least.specs.Sound.{tree_size}
+use Rattle.least.specs.Smallest.{table_at_least, table_at_most}
 
 module _ {A : Type 0} where
-  all-records : (P : A → Type 0) (s : Script A) → AllSaid P s → All P (recordsOf s)
-  unfolding recordsOf
+  all-records : (P : A → Type 0) (s : Script A) → AllSaid P s → All P (records_of s)
+  unfolding records_of
   all-records P (stop c) h = tt
   all-records P (say a s) h = (h.0, all-records P s h.1)
 
   -- a script that is done says its records and no more
-  done-told : (s : Script A) → number_of s ≡ 0 → s ≡ told (recordsOf s)
-  unfolding recordsOf number_of
+  done-told : (s : Script A) → number_of s ≡ 0 → s ≡ told (records_of s)
+  unfolding records_of number_of
   done-told (stop c) h = ap stop h
   done-told (say a s) h = ap (say a) (done-told s h)
 
@@ -52,37 +52,37 @@ module _ {A : Type 0} (F : Format A) (P : A → Type 0) (apart : (a b : A) → P
       ap₂ (λ (x : A) (r : List A). x ∷ r) (apart a b c.0 d.0 first) (same-records l k p q c.1 d.1 (omega arith) others)
 
   pub logged : (s : Script A) (l : List A) (L : List ℕ) (number count : ℕ) (M : List ℕ) → AllSaid P s → All P l → Said F s L number count M → Complete F l L number count M → s ≡ told l
-  logged s l L number count M p q said complete = go (leb (length (recordsOf s)) (roomOf F.wide L)) refl said.number_is
+  logged s l L number count M p q said complete = go (leb (length (records_of s)) (room_of F.wide L)) refl said.number_is
     where
-      go : (b : Bool) → leb (length (recordsOf s)) (roomOf F.wide L) ≡ b → number ≡ cond b (number_of s) 9 → s ≡ told l
+      go : (b : Bool) → leb (length (records_of s)) (room_of F.wide L) ≡ b → number ≡ cond b (number_of s) 9 → s ≡ told l
       go true room n =
-          let all = take_all (roomOf F.wide L) (recordsOf s) (leb-true _ _ room) in
+          let all = take_all (room_of F.wide L) (records_of s) (leb-true _ _ room) in
           let long = ap length (sym all) ∙ sym said.count-is ∙ complete.count-is in
           let bytes = ap (λ (r : List A). bytes_of F r ++ drop (F.wide * count) L) (sym all) ∙ sym said.log_is ∙ complete.log_is in
-          done-told s (sym n ∙ complete.number_is) ∙ ap told (same-records (recordsOf s) l _ _ (all-records P s p) q long bytes)
+          done-told s (sym n ∙ complete.number_is) ∙ ap told (same-records (records_of s) l _ _ (all-records P s p) q long bytes)
       go false room n = absurd (omega (arith, n, complete.number_is))
 
 -- ---- events
-heard-apart : (feature : ℕ) (a b : Event) → Fits a → Fits b → (events feature).bytes a ≡ (events feature).bytes b → a ≡ b
-heard-apart feature a b p q e =
-    let same : WellFormed a ≡ WellFormed b = sym (hear-said feature a p.sized p.formed) ∙ ap heard e ∙ hear-said feature b q.sized q.formed in
+heard_apart : (feature : ℕ) (a b : Event) → Fits a → Fits b → (events feature).bytes a ≡ (events feature).bytes b → a ≡ b
+heard_apart feature a b p q e =
+    let same : WellFormed a ≡ WellFormed b = sym (hear_said feature a p.sized p.formed) ∙ ap heard e ∙ hear_said feature b q.sized q.formed in
     cc
 
 module _ (F : Flags) (table : List ℕ) (P : Pools) (words : InWords P) (declared : ℕ) (es : List Event) where
   -- what a reading of words says fits
-  pub told_fit : readS F (recordWith table P) declared ≡ told es → All Fits es
-  told_fit e = subst (All Fits) (ap recordsOf e ∙ told-records es) (all-records Fits (readS F (recordWith table P) declared) (table-says table P words F declared))
+  pub told_fit : read_s F (record_with table P) declared ≡ told es → All Fits es
+  told_fit e = subst (All Fits) (ap records_of e ∙ told-records es) (all-records Fits (read_s F (record_with table P) declared) (table-says table P words F declared))
 
   -- a reading of words that leaves events in a log, and they fit, says just these
-  pub logged-reads : All Fits es → (feature : ℕ) (L : List ℕ) (number count : ℕ) (M : List ℕ) → Said (events feature) (readS F (recordWith table P) declared) L number count M → Complete (events feature) es L number count M
-      → readS F (recordWith table P) declared ≡ told es
-  logged-reads fit feature L number count M said complete = logged (events feature) Fits (heard-apart feature) (readS F (recordWith table P) declared) es L number count M (table-says table P words F declared) fit said complete
+  pub logged_reads : All Fits es → (feature : ℕ) (L : List ℕ) (number count : ℕ) (M : List ℕ) → Said (events feature) (read_s F (record_with table P) declared) L number count M → Complete (events feature) es L number count M
+      → read_s F (record_with table P) declared ≡ told es
+  logged_reads fit feature L number count M said complete = logged (events feature) Fits (heard_apart feature) (read_s F (record_with table P) declared) es L number count M (table-says table P words F declared) fit said complete
 
 -- ---- no table and pools of words that leave a geometry's events in a log are smaller than the least, nor than the tree that the writer leaves
-module _ (F : Flags) (s : Simple) (fit : All Fits (eventsOf F 0 s)) (table : List ℕ) (P : Pools) (words : InWords P) (feature : ℕ) (L : List ℕ) (number count : ℕ) (M : List ℕ)
-    (said : Said (events feature) (readS F (recordWith table P) (type_of s)) L number count M) (complete : Complete (events feature) (eventsOf F 0 s) L number count M) where
-  pub logged-at-least : leastOf F s ≤ treeSize table P
-  logged-at-least = table-at-least F s table P (logged-reads F table P words (type_of s) (eventsOf F 0 s) fit feature L number count M said complete)
+module _ (F : Flags) (s : Simple) (fit : All Fits (events_of F 0 s)) (table : List ℕ) (P : Pools) (words : InWords P) (feature : ℕ) (L : List ℕ) (number count : ℕ) (M : List ℕ)
+    (said : Said (events feature) (read_s F (record_with table P) (type_of s)) L number count M) (complete : Complete (events feature) (events_of F 0 s) L number count M) where
+  pub logged_at_least : least_of F s ≤ tree_size table P
+  logged_at_least = table_at_least F s table P (logged_reads F table P words (type_of s) (events_of F 0 s) fit feature L number count M said complete)
 
-  pub logged-smallest : (k : Held) (h : Typing) (own : List ℕ) (pools : Pools) → Writable F s k → Holds (recordWith own pools) 0 (tree (ending h k)) → treeSize own pools ≤ treeSize table P
-  logged-smallest k h own pools q o = omega (arith, table-at-most F s k h own pools q o, logged-at-least)
+  pub logged_smallest : (k : Held) (h : Typing) (own : List ℕ) (pools : Pools) → Writable F s k → Holds (record_with own pools) 0 (tree (ending h k)) → tree_size own pools ≤ tree_size table P
+  logged_smallest k h own pools q o = omega (arith, table_at_most F s k h own pools q o, logged_at_least)

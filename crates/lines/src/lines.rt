@@ -2,8 +2,8 @@
 ghost use Rattle.std.specs.Prelude.{◌≡◌, cond, not, ◌&&◌, ◌≤◌, ◌<◌, leb, length};
 ghost use Rattle.laws.specs.Script.{out, run};
 ghost use Rattle.log.specs.Log.{events};
-ghost use Rattle.coords.specs.Seen.{coordsIn};
-ghost use Rattle.lines.specs.Lines.{badEnd, stretchS, linesS, flatS, ringsS, stretchesS, multiLineS};
+ghost use Rattle.coords.specs.Seen.{coords_in};
+ghost use Rattle.lines.specs.Lines.{bad_end, stretch_s, lines_s, flat_s, rings_s, stretches_s, multi_line_s};
 
 use coords::{Frame, Seen, Window, between, read_window};
 use kinds::answer::Answer;
@@ -11,7 +11,7 @@ use kinds::event::Event;
 use kinds::{geometry_type, refusal};
 
 fn bad_end(before: u32, end: u32) -> bool
-    ensures { result ≡ badEnd before end }
+    ensures { result ≡ bad_end before end }
 {
     (end < before) | (2147483648 <= end)
 }
@@ -47,8 +47,8 @@ pub fn read_multilinestring_part(
     idx: u32,
 ) -> Answer
     requires { length xy.now ≤ 131072 }
-    ensures { let C = coordsIn seen xy.now z.now m.now t.now tm.now in
-        run (events feature) (stretchS C before end idx) log.old count ≡ out result.number result.count log.new }
+    ensures { let C = coords_in seen xy.now z.now m.now t.now tm.now in
+        run (events feature) (stretch_s C before end idx) log.old count ≡ out result.number result.count log.new }
 {
     if bad_end(before, end) {
         return Answer {
@@ -79,8 +79,8 @@ fn read_lines(
     seen: Seen,
 ) -> Answer
     requires { (length xy.now ≤ 131072) × (length ends.now ≤ 65536) }
-    ensures { let C = coordsIn seen xy.now z.now m.now t.now tm.now in
-        run (events feature) (linesS C ends.now 0 0) log.old count ≡ out result.number result.count log.new }
+    ensures { let C = coords_in seen xy.now z.now m.now t.now tm.now in
+        run (events feature) (lines_s C ends.now 0 0) log.old count ≡ out result.number result.count log.new }
 {
     let mut said = count;
     let mut before: u32 = 0;
@@ -119,8 +119,8 @@ pub fn read_line(
     idx: u32,
 ) -> Answer
     requires { (length xy.now ≤ 131072) × (kind < 32) }
-    ensures { let C = coordsIn seen xy.now z.now m.now t.now tm.now in
-        run (events feature) (flatS C kind tagged idx) log.old count ≡ out result.number result.count log.new }
+    ensures { let C = coords_in seen xy.now z.now m.now t.now tm.now in
+        run (events feature) (flat_s C kind tagged idx) log.old count ≡ out result.number result.count log.new }
 {
     if !seen.xy {
         return Answer {
@@ -157,8 +157,8 @@ fn read_rings(
     seen: Seen,
 ) -> Answer
     requires { (length xy.now ≤ 131072) × (length ends.now ≤ 65536) }
-    ensures { let C = coordsIn seen xy.now z.now m.now t.now tm.now in
-        run (events feature) (ringsS C ends.now) log.old count ≡ out result.number result.count log.new }
+    ensures { let C = coords_in seen xy.now z.now m.now t.now tm.now in
+        run (events feature) (rings_s C ends.now) log.old count ≡ out result.number result.count log.new }
 {
     if ends.len() <= 1 {
         read_line(
@@ -197,8 +197,8 @@ pub fn read_stretches(
     idx: u32,
 ) -> Answer
     requires { (length xy.now ≤ 131072) × (length ends.now ≤ 65536) × (kind < 32) }
-    ensures { let C = coordsIn seen xy.now z.now m.now t.now tm.now in
-        run (events feature) (stretchesS kind tagged idx C ends.now) log.old count ≡ out result.number result.count log.new }
+    ensures { let C = coords_in seen xy.now z.now m.now t.now tm.now in
+        run (events feature) (stretches_s kind tagged idx C ends.now) log.old count ≡ out result.number result.count log.new }
 {
     let size = stretches(ends.len());
     let b = log::say(log, feature, count, Event::begin(kind, tagged, size, idx));
@@ -226,8 +226,8 @@ pub fn read_multilinestring(
     idx: u32,
 ) -> Answer
     requires { (length xy.now ≤ 131072) × (length ends.now ≤ 65536) }
-    ensures { let C = coordsIn seen xy.now z.now m.now t.now tm.now in
-        run (events feature) (multiLineS C ends.now idx) log.old count ≡ out result.number result.count log.new }
+    ensures { let C = coords_in seen xy.now z.now m.now t.now tm.now in
+        run (events feature) (multi_line_s C ends.now idx) log.old count ≡ out result.number result.count log.new }
 {
     if nothing_there(seen.xy, ends.len()) {
         return Answer {

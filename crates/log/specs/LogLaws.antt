@@ -2,29 +2,29 @@
 use Rattle.std.specs.Prelude.{◌≡◌, refl, Bool, true, false, cond, ◌&&◌, List, ℕ, length, eqb}
 use Rattle.std.proofs.Common.{arith, eqb-true, ne_eqb}
 use Rattle.std.proofs.lemmas.Bool.{eqb-false}
-use Rattle.kinds.specs.Event.{Parsed, WellFormed, Malformed, wellFormed, isQuiet, toldApart}
-use Rattle.kinds.specs.EventLaws.{xy-alone}
+use Rattle.kinds.specs.Event.{Parsed, WellFormed, Malformed, well_formed, is_quiet, told_apart}
+use Rattle.kinds.specs.EventLaws.{xy_alone}
 use Rattle.kinds.specs.declared.event.Event.{Event}
 use Rattle.kinds.specs.declared.event.Heard.{Heard}
 use Rattle.kinds.specs.declared.event.Heard.TheVariants.{Pair, Coordinate, Quiet, Other, Malformed as Unheard}
-use Rattle.event_layout.specs.Event.{eventOf, spareZero, readEvent}
+use Rattle.event_layout.specs.Event.{event_of, spare_zero, read_event}
 use Rattle.log.specs.Log.{heard}
 
-pub not-whole : (bytes : List ℕ) → (length bytes ≡ 64 → ⊥) → heard bytes ≡ Malformed
-unfolding heard readEvent
-not-whole bytes h = rw (ne_eqb (length bytes) 64 h)
+pub not_whole : (bytes : List ℕ) → (length bytes ≡ 64 → ⊥) → heard bytes ≡ Malformed
+unfolding heard read_event
+not_whole bytes h = rw (ne_eqb (length bytes) 64 h)
 
 -- ---- bytes that are heard as an event have its fields, and it is well-formed
 pub record HeardEvent (bytes : List ℕ) (e : Event) : Type 0 where
-  pub fields : eventOf bytes ≡ e
-  pub formed : wellFormed e ≡ true
+  pub fields : event_of bytes ≡ e
+  pub formed : well_formed e ≡ true
 
 pub heard-event : (bytes : List ℕ) (e : Event) → heard bytes ≡ WellFormed e → HeardEvent bytes e
-unfolding heard readEvent
-heard-event bytes e h = by_tests (eqb (length bytes) 64) (spareZero bytes) (wellFormed (eventOf bytes)) refl h
+unfolding heard read_event
+heard-event bytes e h = by_tests (eqb (length bytes) 64) (spare_zero bytes) (well_formed (event_of bytes)) refl h
   where
-    by_tests : (long spare formed : Bool) → wellFormed (eventOf bytes) ≡ formed → cond (long && (spare && formed)) (WellFormed (eventOf bytes)) Malformed ≡ WellFormed e → HeardEvent bytes e
-    by_tests true true true f h = let same : eventOf bytes ≡ e = cc in record { fields = same; formed = rw same at f }
+    by_tests : (long spare formed : Bool) → well_formed (event_of bytes) ≡ formed → cond (long && (spare && formed)) (WellFormed (event_of bytes)) Malformed ≡ WellFormed e → HeardEvent bytes e
+    by_tests true true true f h = let same : event_of bytes ≡ e = cc in record { fields = same; formed = rw same at f }
     by_tests true true false f h = let z : ◌≡◌ {A = ℕ} 0 1 = cc in absurd (omega arith)
     by_tests true false formed f h = let z : ◌≡◌ {A = ℕ} 0 1 = cc in absurd (omega arith)
     by_tests false spare formed f h = let z : ◌≡◌ {A = ℕ} 0 1 = cc in absurd (omega arith)
@@ -35,8 +35,8 @@ pub record HeardPair (bytes : List ℕ) (x y : ℕ) : Type 0 where
   pub is : heard bytes ≡ WellFormed event
   pub kind : event.kind ≡ 64
   pub alone : event.present ≡ 0
-  pub x-is : event.x ≡ x
-  pub y-is : event.y ≡ y
+  pub x_is : event.x ≡ x
+  pub y_is : event.y ≡ y
 
 pub record HeardCoordinate (bytes : List ℕ) (e : Event) : Type 0 where
   pub is : heard bytes ≡ WellFormed e
@@ -45,13 +45,13 @@ pub record HeardCoordinate (bytes : List ℕ) (e : Event) : Type 0 where
 pub record HeardQuiet (bytes : List ℕ) : Type 0 where
   pub event : Event
   pub is : heard bytes ≡ WellFormed event
-  pub quiet : isQuiet event ≡ true
+  pub quiet : is_quiet event ≡ true
 
 pub record HeardOther (bytes : List ℕ) (e : Event) : Type 0 where
   pub is : heard bytes ≡ WellFormed e
-  pub not-xy : e.kind ≡ 64 → ⊥
+  pub not_xy : e.kind ≡ 64 → ⊥
   pub not-coordinate : e.kind ≡ 65 → ⊥
-  pub loud : isQuiet e ≡ false
+  pub loud : is_quiet e ≡ false
 
 abbrev pub Behind : List ℕ → Heard → Type 0
 Behind bytes (Pair x y) = HeardPair bytes x y
@@ -61,18 +61,18 @@ Behind bytes (Other e) = HeardOther bytes e
 Behind bytes Unheard = heard bytes ≡ Malformed
 
 module _ (bytes : List ℕ) (told : Heard) where
-  by_kind : (e : Event) (xy coordinate quiet : Bool) → eqb e.kind 64 ≡ xy → eqb e.kind 65 ≡ coordinate → isQuiet e ≡ quiet → heard bytes ≡ WellFormed e
+  by_kind : (e : Event) (xy coordinate quiet : Bool) → eqb e.kind 64 ≡ xy → eqb e.kind 65 ≡ coordinate → is_quiet e ≡ quiet → heard bytes ≡ WellFormed e
       → cond xy (Pair e.x e.y) (cond coordinate (Coordinate e) (cond quiet Quiet (Other e))) ≡ told → Behind bytes told
   by_kind e true coordinate quiet xy c q is h =
       let kind : e.kind ≡ 64 = eqb-true e.kind 64 xy in
-      rw (← h) (record { event = e; is = is; kind = kind; alone = xy-alone e kind (heard-event bytes e is).formed; x-is = refl; y-is = refl })
+      rw (← h) (record { event = e; is = is; kind = kind; alone = xy_alone e kind (heard-event bytes e is).formed; x_is = refl; y_is = refl })
   by_kind e false true quiet xy c q is h = rw (← h) (record { is = is; kind = eqb-true e.kind 65 c })
   by_kind e false false true xy c q is h = rw (← h) (record { event = e; is = is; quiet = q })
-  by_kind e false false false xy c q is h = rw (← h) (record { is = is; not-xy = eqb-false e.kind 64 xy; not-coordinate = eqb-false e.kind 65 c; loud = q })
+  by_kind e false false false xy c q is h = rw (← h) (record { is = is; not_xy = eqb-false e.kind 64 xy; not-coordinate = eqb-false e.kind 65 c; loud = q })
 
-  by-record : (p : Parsed) → heard bytes ≡ p → toldApart p ≡ told → Behind bytes told
-  by-record Malformed is h = rw (← h) is
-  by-record (WellFormed e) is h = by_kind e (eqb e.kind 64) (eqb e.kind 65) (isQuiet e) refl refl refl is h
+  by_record : (p : Parsed) → heard bytes ≡ p → told_apart p ≡ told → Behind bytes told
+  by_record Malformed is h = rw (← h) is
+  by_record (WellFormed e) is h = by_kind e (eqb e.kind 64) (eqb e.kind 65) (is_quiet e) refl refl refl is h
 
-  pub behind : toldApart (heard bytes) ≡ told → Behind bytes told
-  behind h = by-record (heard bytes) refl h
+  pub behind : told_apart (heard bytes) ≡ told → Behind bytes told
+  behind h = by_record (heard bytes) refl h

@@ -2,8 +2,8 @@
 ghost use Rattle.std.specs.Prelude.{◌≡◌, true, length};
 ghost use Rattle.laws.specs.Script.{one, out, run};
 ghost use Rattle.kinds.specs.declared.event.Event.{Event};
-ghost use Rattle.kinds.specs.Event.{WellFormed, toldApart, BareOf, isEvent, OwnPair};
-ghost use Rattle.log.specs.Log.{events, heard, featureIn, restNumber};
+ghost use Rattle.kinds.specs.Event.{WellFormed, told_apart, BareOf, is_event, OwnPair};
+ghost use Rattle.log.specs.Log.{events, heard, feature_in, rest_number};
 
 use crate::EVENT_BYTES;
 use crate::room::has_room;
@@ -13,7 +13,7 @@ use kinds::refusal;
 
 // What bytes are: a pair, a coordinate, a begin that sets no type, any other event, or malformed.
 pub fn hear(bytes: &[u8]) -> Heard
-    ensures { result ≡ toldApart (heard bytes.now) }
+    ensures { result ≡ told_apart (heard bytes.now) }
 {
     event_layout::read_event(bytes)
 }
@@ -27,7 +27,7 @@ pub fn hear_bare(bytes: &[u8]) -> Bare
 
 // Whether bytes are an event at all.
 pub fn is_event(bytes: &[u8]) -> bool
-    ensures { result ≡ isEvent (heard bytes.now) }
+    ensures { result ≡ is_event (heard bytes.now) }
 {
     event_layout::is_event(bytes)
 }
@@ -35,7 +35,7 @@ pub fn is_event(bytes: &[u8]) -> bool
 // Whether bytes are the xy event of a feature that has this index: a quick look, for a caller that knows which pair is due.
 pub fn is_pair(bytes: &[u8], feature: u32, idx: u32) -> bool
     requires { length bytes.now ≡ 64 }
-    ensures { result ≡ true → OwnPair (heard bytes.now) (featureIn bytes.now) feature idx }
+    ensures { result ≡ true → OwnPair (heard bytes.now) (feature_in bytes.now) feature idx }
 {
     event_layout::is_pair(bytes, feature, idx)
 }
@@ -51,7 +51,7 @@ pub fn event_in(bytes: &[u8]) -> Event
 // The number of the feature that an event's bytes are of.
 pub fn feature_in(bytes: &[u8]) -> u32
     requires { length bytes.now ≡ 64 }
-    ensures { result ≡ featureIn bytes.now }
+    ensures { result ≡ feature_in bytes.now }
 {
     event_layout::feature_of(bytes)
 }
@@ -77,7 +77,7 @@ pub fn say(log: &mut [u8], feature: u32, count: usize, e: Event) -> Answer
 
 // What is left over behind the whole records of a list is malformed.
 pub fn rest_number(length: usize) -> u8
-    ensures { result ≡ restNumber length }
+    ensures { result ≡ rest_number length }
 {
     if length % EVENT_BYTES == 0 {
         refusal::DONE

@@ -2,8 +2,8 @@
 ghost use Rattle.std.specs.Prelude.{◌≡◌, false, [], ◌≤◌, length};
 ghost use Rattle.laws.specs.Script.{out, run};
 ghost use Rattle.log.specs.Log.{events};
-ghost use Rattle.lines.specs.Lines.{flatS, stretchesS};
-ghost use Rattle.lone_ring.specs.Lone.{loneS, loneCoords};
+ghost use Rattle.lines.specs.Lines.{flat_s, stretches_s};
+ghost use Rattle.lone_ring.specs.Lone.{lone_s, lone_coords};
 
 use kinds::answer::Answer;
 use kinds::event::Event;
@@ -11,7 +11,7 @@ use kinds::{geometry_type, refusal};
 
 fn read_lone_pairs(log: &mut [u8], feature: u32, count: usize, xy: &[u64]) -> Answer
     requires { length xy.now ≤ 131072 }
-    ensures { run (events feature) (loneS xy.now 0) log.old count ≡ out result.number result.count log.new }
+    ensures { run (events feature) (lone_s xy.now 0) log.old count ≡ out result.number result.count log.new }
 {
     let mut said = count;
     let mut i: usize = 0;
@@ -40,7 +40,7 @@ fn read_lone_pairs(log: &mut [u8], feature: u32, count: usize, xy: &[u64]) -> An
 // The whole list as one line.
 fn read_lone_line(log: &mut [u8], feature: u32, count: usize, xy: &[u64]) -> Answer
     requires { length xy.now ≤ 131072 }
-    ensures { run (events feature) (flatS (loneCoords xy.now) 2 false 0) log.old count ≡ out result.number result.count log.new }
+    ensures { run (events feature) (flat_s (lone_coords xy.now) 2 false 0) log.old count ≡ out result.number result.count log.new }
 {
     let kind = geometry_type::LINE_STRING;
     let size = (xy.len() / 2) as u32;
@@ -58,7 +58,7 @@ fn read_lone_line(log: &mut [u8], feature: u32, count: usize, xy: &[u64]) -> Ans
 // An untagged polygon whose one ring is the whole list.
 pub fn read_lone_ring(log: &mut [u8], feature: u32, count: usize, xy: &[u64], idx: u32) -> Answer
     requires { length xy.now ≤ 131072 }
-    ensures { run (events feature) (stretchesS 3 false idx (loneCoords xy.now) [])
+    ensures { run (events feature) (stretches_s 3 false idx (lone_coords xy.now) [])
         log.old count ≡ out result.number result.count log.new }
 {
     let kind = geometry_type::POLYGON;

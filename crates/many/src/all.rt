@@ -2,7 +2,7 @@
 ghost use Rattle.std.specs.Prelude.{◌≡◌};
 ghost use Rattle.writing.specs.declared.feature.Feature.TheVariants.{Numbered};
 ghost use Rattle.writing.specs.State.{mem_of};
-ghost use Rattle.runs.specs.Events.{progress, eventsCall};
+ghost use Rattle.runs.specs.Events.{progress, events_call};
 
 use frames::take_other;
 use kinds::geometry::Lent;
@@ -27,7 +27,7 @@ pub fn take_all(
     requires { s.feature ≡ Numbered held }
     ensures { let before = mem_of table.old xy.old ends.old z.old m.old t.old tm.old in
         let after = mem_of table.new xy.new ends.new z.new m.new t.new tm.new in
-        progress result after ≡ eventsCall s before bytes.now }
+        progress result after ≡ events_call s before bytes.now }
 {
     let pools = Lent::new(xy.len(), ends.len(), z.len(), m.len(), t.len(), tm.len());
     let records = store::records_lent(table);

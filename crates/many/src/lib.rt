@@ -4,7 +4,7 @@ mod held;
 
 ghost use Rattle.std.specs.Prelude.{◌≡◌};
 ghost use Rattle.writing.specs.State.{mem_of};
-ghost use Rattle.runs.specs.Events.{progress, eventsCall};
+ghost use Rattle.runs.specs.Events.{progress, events_call};
 
 use all::take_all;
 use held::held_by;
@@ -27,7 +27,7 @@ pub fn events(
 ) -> Took
     ensures { let before = mem_of table.old xy.old ends.old z.old m.old t.old tm.old in
         let after = mem_of table.new xy.new ends.new z.new m.new t.new tm.new in
-        progress result after ≡ eventsCall s before bytes.now }
+        progress result after ≡ events_call s before bytes.now }
 {
     let feature = s.feature;
     let held = held_by(feature, bytes);

@@ -3,7 +3,7 @@ use Rattle.std.specs.Prelude.{◌≡◌, refl, List, [], ◌∷◌, ◌++◌, �
 use Rattle.std.proofs.Common.{sym, ap, ◌∙◌, arith}
 use Rattle.nesting.specs.Events.{GeometryType, Event, begin, end, pair, strange}
 use Rattle.nesting.specs.Rules.{Rules}
-use Rattle.nesting.specs.Machine.{Frame, Place, here, tooDeep, nowhere, place, beginFits, endFits, pairFits, beginAt, end_at, State, within, start, closed, Answer, taken, refused, step, and_then, run}
+use Rattle.nesting.specs.Machine.{Frame, Place, here, too_deep, nowhere, place, begin_fits, end_fits, pair_fits, begin_at, end_at, State, within, start, closed, Answer, taken, refused, step, and_then, run}
 use Rattle.nesting.specs.Accepts.{accepts}
 use Rattle.nesting.specs.Completes.{Begins, completes, Whole, completed}
 
@@ -12,17 +12,17 @@ pub record Taken (a : Answer) : Type 0 where
   pub state : State
   pub is : a ≡ taken state
 
-pub not-both : (n : ℕ) (t : State) → refused n ≡ taken t → ⊥
-not-both n t e = let z : ◌≡◌ {A = ℕ} 0 1 = ap (λ (a : Answer). elim a [ taken s ↦ 1 | refused n ↦ 0 ]) e in omega arith
+pub not_both : (n : ℕ) (t : State) → refused n ≡ taken t → ⊥
+not_both n t e = let z : ◌≡◌ {A = ℕ} 0 1 = ap (λ (a : Answer). elim a [ taken s ↦ 1 | refused n ↦ 0 ]) e in omega arith
 
 first_part : (a : Answer) (f : State → Answer) (t : State) → and_then a f ≡ taken t → Taken a
 first_part (taken s) f t e = record { state = s; is = refl }
-first_part (refused n) f t e = absurd (not-both n t e)
+first_part (refused n) f t e = absurd (not_both n t e)
 
 -- an event is refused with 13 or 21
 data Either (n : ℕ) : Type 0 where
-  is-13 : n ≡ 13 → Either n
-  is-21 : n ≡ 21 → Either n
+  is_13 : n ≡ 13 → Either n
+  is_21 : n ≡ 21 → Either n
 
 abbrev Numbers : Answer → Type 0
 Numbers (taken s) = Unit {0}
@@ -30,11 +30,11 @@ Numbers (refused n) = Either n
 
 tested : (b : Bool) (s : State) → Numbers (cond b (taken s) (refused 21))
 tested true s = tt
-tested false s = is-21 refl
+tested false s = is_21 refl
 
 end-numbers : (f : Frame) (fs : List Frame) (type : GeometryType) (tagged : Bool) (idx : ℕ) → Numbers (end_at f fs type tagged idx)
-end-numbers f [] type tagged idx = is-21 refl
-end-numbers f (p ∷ fs) type tagged idx = tested (endFits f type tagged idx) _
+end-numbers f [] type tagged idx = is_21 refl
+end-numbers f (p ∷ fs) type tagged idx = tested (end_fits f type tagged idx) _
 
 other-number : (m n : ℕ) → (m ≡ n → ⊥) → refused m ≡ refused n → ⊥
 other-number m n h e = h (cc)
@@ -52,47 +52,47 @@ module _ (R : Rules) where
   begins-taken : (es : List Event) → Begins R es → Taken (run R es start)
   begins-taken es b = first_part (run R es start) (λ t. run R b.rest t) closed (sym (run-append es b.rest start) ∙ ap (λ (l : List Event). run R l start) (sym b.tell) ∙ accepts R b.n b.geometry b.rule)
 
-  one_more : (es : List Event) (e : Event) (s : State) → run R es start ≡ taken s → run R (es ++ (e ∷ [])) start ≡ and_then (step R s e) (λ t. taken t)
-  one_more es e s h = run-append es (e ∷ []) start ∙ ap (λ (a : Answer). and_then a (λ t. run R (e ∷ []) t)) h
+  one_more_lem : (es : List Event) (e : Event) (s : State) → run R es start ≡ taken s → run R (es ++ (e ∷ [])) start ≡ and_then (step R s e) (λ t. taken t)
+  one_more_lem es e s h = run-append es (e ∷ []) start ∙ ap (λ (a : Answer). and_then a (λ t. run R (e ∷ []) t)) h
 
   -- ---- taken: exactly where a geometry has the events so far, then this one, as its first
   taken-begins : (es : List Event) (e : Event) (s : State) → run R es start ≡ taken s → Taken (step R s e) → Begins R (es ++ (e ∷ []))
-  taken-begins es e s h t = completes R (es ++ (e ∷ [])) t.state (one_more es e s h ∙ ap (λ (a : Answer). and_then a (λ u. taken u)) t.is)
+  taken-begins es e s h t = completes R (es ++ (e ∷ [])) t.state (one_more_lem es e s h ∙ ap (λ (a : Answer). and_then a (λ u. taken u)) t.is)
 
   begins-next : (es : List Event) (e : Event) (s : State) → run R es start ≡ taken s → Begins R (es ++ (e ∷ [])) → Taken (step R s e)
   begins-next es e s h b =
       let t = begins-taken (es ++ (e ∷ [])) b in
-      first_part (step R s e) (λ u. taken u) t.state (sym (one_more es e s h) ∙ t.is)
+      first_part (step R s e) (λ u. taken u) t.state (sym (one_more_lem es e s h) ∙ t.is)
 
-  pub taken-exactly : (es : List Event) (e : Event) (s : State) → run R es start ≡ taken s → Taken (step R s e) ↔ Begins R (es ++ (e ∷ []))
-  taken-exactly es e s h = (taken-begins es e s h, begins-next es e s h)
+  pub taken_exactly : (es : List Event) (e : Event) (s : State) → run R es start ≡ taken s → Taken (step R s e) ↔ Begins R (es ++ (e ∷ []))
+  taken_exactly es e s h = (taken-begins es e s h, begins-next es e s h)
 
   -- ---- 21: exactly where no geometry goes on so and 13 is not due
-  begin-numbers : (p : Place) (f : Frame) (fs : List Frame) (type : GeometryType) (tagged : Bool) (size idx : ℕ) → Numbers (beginAt R p f fs type tagged size idx)
-  begin-numbers (here tag) f fs type tagged size idx = tested (beginFits R f tag type tagged size idx) _
-  begin-numbers tooDeep f fs type tagged size idx = is-13 refl
-  begin-numbers nowhere f fs type tagged size idx = is-21 refl
+  begin-numbers : (p : Place) (f : Frame) (fs : List Frame) (type : GeometryType) (tagged : Bool) (size idx : ℕ) → Numbers (begin_at R p f fs type tagged size idx)
+  begin-numbers (here tag) f fs type tagged size idx = tested (begin_fits R f tag type tagged size idx) _
+  begin-numbers too_deep f fs type tagged size idx = is_13 refl
+  begin-numbers nowhere f fs type tagged size idx = is_21 refl
 
   numbers : (s : State) (e : Event) → Numbers (step R s e)
   numbers (within f fs) (begin type tagged size idx) = begin-numbers (place R f.type (suc (length fs)) type size) f fs type tagged size idx
   numbers (within f fs) (end type tagged idx) = end-numbers f fs type tagged idx
-  numbers (within f fs) (pair x y idx) = tested (pairFits f x y idx) _
-  numbers (within f fs) (strange kind) = is-21 refl
+  numbers (within f fs) (pair x y idx) = tested (pair_fits f x y idx) _
+  numbers (within f fs) (strange kind) = is_21 refl
 
-  pub twenty-one : (es : List Event) (e : Event) (s : State) → run R es start ≡ taken s → (step R s e ≡ refused 21) ↔ ((Begins R (es ++ (e ∷ [])) → ⊥) × (step R s e ≡ refused 13 → ⊥))
-  twenty-one es e s h = (to, λ q. from (step R s e) refl (numbers s e) q)
+  pub twenty_one : (es : List Event) (e : Event) (s : State) → run R es start ≡ taken s → (step R s e ≡ refused 21) ↔ ((Begins R (es ++ (e ∷ [])) → ⊥) × (step R s e ≡ refused 13 → ⊥))
+  twenty_one es e s h = (to, λ q. from (step R s e) refl (numbers s e) q)
     where
       to : step R s e ≡ refused 21 → (Begins R (es ++ (e ∷ [])) → ⊥) × (step R s e ≡ refused 13 → ⊥)
-      to r = (λ b. let t = begins-next es e s h b in not-both 21 t.state (sym r ∙ t.is), λ q. other-number 13 21 (omega arith) (sym q ∙ r))
+      to r = (λ b. let t = begins-next es e s h b in not_both 21 t.state (sym r ∙ t.is), λ q. other-number 13 21 (omega arith) (sym q ∙ r))
 
       from : (a : Answer) → step R s e ≡ a → Numbers a → (Begins R (es ++ (e ∷ [])) → ⊥) × (step R s e ≡ refused 13 → ⊥) → step R s e ≡ refused 21
       from (taken t) q n k = absurd (k.0 (taken-begins es e s h (record { state = t; is = q })))
-      from (refused n) q (is-13 m) k = absurd (k.1 (q ∙ ap refused m))
-      from (refused n) q (is-21 m) k = q ∙ ap refused m
+      from (refused n) q (is_13 m) k = absurd (k.1 (q ∙ ap refused m))
+      from (refused n) q (is_21 m) k = q ∙ ap refused m
 
   -- ---- closed: exactly where the events are all of a geometry's
-  pub closed-exactly : (es : List Event) (s : State) → run R es start ≡ taken s → (s ≡ closed) ↔ Whole R es
-  closed-exactly es s h = (to, from)
+  pub closed_exactly : (es : List Event) (s : State) → run R es start ≡ taken s → (s ≡ closed) ↔ Whole R es
+  closed_exactly es s h = (to, from)
     where
       to : s ≡ closed → Whole R es
       to q = completed R es (h ∙ ap taken q)

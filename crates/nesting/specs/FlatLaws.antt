@@ -4,28 +4,28 @@ use Rattle.std.specs.Prelude.{◌≡◌, refl, ◌↔◌, Bool, true, false, not
 use Rattle.std.proofs.Common.{sym, ap, ◌∙◌, arith, eqb-true, leb-true, ne_eqb}
 use Rattle.std.proofs.lemmas.Bool.{lt-leb, not-true}
 use Rattle.laws.specs.Every.{never, both, other}
-use Rattle.kinds.specs.Event.{beginE, endE, xyE, wellFormed, keepsUses, usesOf, bitSet, usesTagged, usesSize, usesPair, usesPresent}
+use Rattle.kinds.specs.Event.{begin_e, end_e, xy_e, well_formed, keeps_uses, uses_of, bit_set, uses_tagged, uses_size, uses_pair, uses_present}
 use Rattle.kinds.specs.declared.event.Uses.{Uses}
 use Rattle.planar.specs.Geometry.{Geometry}
-use Rattle.planar.specs.Within.{planarEvents}
-use Rattle.nesting.specs.Events.{Point, LineString, Polygon, MultiPoint, MultiLineString, MultiPolygon, Collection, Event, begin, end, pair, strange, eventsOf}
+use Rattle.planar.specs.Within.{planar_events}
+use Rattle.nesting.specs.Events.{Point, LineString, Polygon, MultiPoint, MultiLineString, MultiPolygon, Collection, Event, begin, end, pair, strange, events_of}
 use Rattle.planar.specs.Fits.{Each}
 use Rattle.nesting.specs.Rules.{Rules, GeometryRule}
 use Rattle.nesting.specs.Machine.{State, within, start, closed, Answer, taken, refused, number, numbered, step, and_then, run}
 use Rattle.nesting.specs.Accepts.{accepts}
 use Rattle.nesting.specs.Completes.{completed}
-use Rattle.nesting.specs.Exactly.{not-both}
-use Rattle.nesting.specs.Flat.{is_type, readAs, read, flat}
+use Rattle.nesting.specs.Exactly.{not_both}
+use Rattle.nesting.specs.Flat.{is_type, read_as, read, flat}
 use Rattle.nesting.specs.FlatEvents.{events-flat}
 
 abbrev pub WellFormed : Flat → Type 0
-WellFormed e = wellFormed e ≡ true
+WellFormed e = well_formed e ≡ true
 
 pub record FlatWhole (R : Rules) (es : List Flat) : Type 0 where
   pub n : ℕ
   pub geometry : Geometry n
   pub rule : GeometryRule R n 1 geometry
-  pub tell : planarEvents n geometry ≡ es
+  pub tell : planar_events n geometry ≡ es
 
 -- ---- a flat event of an event is read as that event
 abbrev Plain : Event → Type 0
@@ -35,7 +35,7 @@ Plain (pair x y idx) = Unit {0}
 Plain (strange kind) = ⊥
 
 read-flat : (e : Event) → Plain e → read (flat e) ≡ e
-unfolding beginE endE xyE
+unfolding begin_e end_e xy_e
 read-flat (begin Point tagged size idx) p = refl
 read-flat (begin LineString tagged size idx) p = refl
 read-flat (begin Polygon tagged size idx) p = refl
@@ -65,49 +65,49 @@ record Unused (e : Flat) (uses : Uses) : Type 0 where
   t : uses.present ≡ false → 0 ≡ e.t
   tm : uses.present ≡ false → 0 ≡ e.tm
 
-zero-so : (p : Bool) (n : ℕ) → (p || eqb n 0) ≡ true → p ≡ false → 0 ≡ n
-zero-so p n h q = sym (eqb-true n 0 (other p (eqb n 0) q h))
+zero_so : (p : Bool) (n : ℕ) → (p || eqb n 0) ≡ true → p ≡ false → 0 ≡ n
+zero_so p n h q = sym (eqb-true n 0 (other p (eqb n 0) q h))
 
 off : (p q : Bool) → p ≡ false → (p && q) ≡ false
 off p q h = rw h
 
-unused : (e : Flat) (uses : Uses) → keepsUses e uses ≡ true → Unused e uses
+unused : (e : Flat) (uses : Uses) → keeps_uses e uses ≡ true → Unused e uses
 unused e uses h =
     let u : Bool = uses.present in
-    let no-tm = both _ ((u && bitSet e.present 8) || eqb e.tm 0) h in
-    let no-t = both _ ((u && bitSet e.present 4) || eqb e.t 0) no-tm.0 in
-    let no-m = both _ ((u && bitSet e.present 2) || eqb e.m 0) no-t.0 in
-    let no-z = both _ ((u && bitSet e.present 1) || eqb e.z 0) no-m.0 in
+    let no-tm = both _ ((u && bit_set e.present 8) || eqb e.tm 0) h in
+    let no-t = both _ ((u && bit_set e.present 4) || eqb e.t 0) no-tm.0 in
+    let no-m = both _ ((u && bit_set e.present 2) || eqb e.m 0) no-t.0 in
+    let no-z = both _ ((u && bit_set e.present 1) || eqb e.z 0) no-m.0 in
     let no-y = both _ (uses.pair || eqb e.y 0) no-z.0 in
     let no-x = both _ (uses.pair || eqb e.x 0) no-y.0 in
     let no_size = both _ (uses.size || eqb e.size 0) no-x.0 in
     let few = both _ (ltb e.present 16) no_size.0 in
-    let no-present = both (uses.idx && (uses.tagged || not e.tagged)) (u || eqb e.present 0) few.0 in
-    let no-tag = both uses.idx (uses.tagged || not e.tagged) no-present.0 in
+    let no_present = both (uses.idx && (uses.tagged || not e.tagged)) (u || eqb e.present 0) few.0 in
+    let no-tag = both uses.idx (uses.tagged || not e.tagged) no_present.0 in
     record {
       tagged = λ q. sym (not-true e.tagged (other uses.tagged (not e.tagged) q no-tag.1));
-      present = zero-so u e.present no-present.1;
-      size = zero-so uses.size e.size no_size.1;
-      x = zero-so uses.pair e.x no-x.1;
-      y = zero-so uses.pair e.y no-y.1;
-      z = λ q. zero-so (u && bitSet e.present 1) e.z no-z.1 (off u (bitSet e.present 1) q);
-      m = λ q. zero-so (u && bitSet e.present 2) e.m no-m.1 (off u (bitSet e.present 2) q);
-      t = λ q. zero-so (u && bitSet e.present 4) e.t no-t.1 (off u (bitSet e.present 4) q);
-      tm = λ q. zero-so (u && bitSet e.present 8) e.tm no-tm.1 (off u (bitSet e.present 8) q);
+      present = zero_so u e.present no_present.1;
+      size = zero_so uses.size e.size no_size.1;
+      x = zero_so uses.pair e.x no-x.1;
+      y = zero_so uses.pair e.y no-y.1;
+      z = λ q. zero_so (u && bit_set e.present 1) e.z no-z.1 (off u (bit_set e.present 1) q);
+      m = λ q. zero_so (u && bit_set e.present 2) e.m no-m.1 (off u (bit_set e.present 2) q);
+      t = λ q. zero_so (u && bit_set e.present 4) e.t no-t.1 (off u (bit_set e.present 4) q);
+      tm = λ q. zero_so (u && bit_set e.present 8) e.tm no-tm.1 (off u (bit_set e.present 8) q);
     }
 
-well-unused : (e : Flat) → WellFormed e → Unused e (usesOf e.kind)
-unfolding wellFormed
-well-unused e w = unused e (usesOf e.kind) w
+well_unused : (e : Flat) → WellFormed e → Unused e (uses_of e.kind)
+unfolding well_formed
+well_unused e w = unused e (uses_of e.kind) w
 
 -- a begin or an end uses neither a pair nor present bits, an end no size
-no-pair : (kind : ℕ) → kind ≤ 39 → usesPair kind ≡ false
-no-pair kind h = rw (ne_eqb kind 64 (omega arith), ne_eqb kind 65 (omega arith))
+no_pair_lem : (kind : ℕ) → kind ≤ 39 → uses_pair kind ≡ false
+no_pair_lem kind h = rw (ne_eqb kind 64 (omega arith), ne_eqb kind 65 (omega arith))
 
-no-present : (kind : ℕ) → kind ≤ 39 → usesPresent kind ≡ false
-no-present kind h = ne_eqb kind 65 (omega arith)
+no_present : (kind : ℕ) → kind ≤ 39 → uses_present kind ≡ false
+no_present kind h = ne_eqb kind 65 (omega arith)
 
-no_size : (kind : ℕ) → 33 ≤ kind → usesSize kind ≡ false
+no_size : (kind : ℕ) → 33 ≤ kind → uses_size kind ≡ false
 no_size kind h = rw (lt-leb kind 12 (omega arith), lt-leb kind 17 (omega arith)) (nothing (leb 1 kind) (leb 15 kind) (not (eqb kind 1)))
   where
     nothing : (a b c : Bool) → (((a && false) || (b && false)) && c) ≡ false
@@ -117,8 +117,8 @@ no_size kind h = rw (lt-leb kind 12 (omega arith), lt-leb kind 17 (omega arith))
     nothing false false c = refl
 
 -- ---- a well-formed flat event is that of the event read
-type-range : (n : ℕ) → is_type n ≡ true → (1 ≤ n) × (n ≤ 7)
-type-range n h = let t = both (leb 1 n) (leb n 7) h in (leb-true 1 n t.0, leb-true n 7 t.1)
+type_range : (n : ℕ) → is_type n ≡ true → (1 ≤ n) × (n ≤ 7)
+type_range n h = let t = both (leb 1 n) (leb n 7) h in (leb-true 1 n t.0, leb-true n 7 t.1)
 
 pub number-numbered : (n : ℕ) → is_type n ≡ true → number (numbered n) ≡ n
 number-numbered zero h = absurd (never h)
@@ -129,47 +129,47 @@ number-numbered (suc (suc (suc (suc zero)))) h = refl
 number-numbered (suc (suc (suc (suc (suc zero))))) h = refl
 number-numbered (suc (suc (suc (suc (suc (suc zero)))))) h = refl
 number-numbered (suc (suc (suc (suc (suc (suc (suc zero))))))) h = refl
-number-numbered (suc (suc (suc (suc (suc (suc (suc (suc n)))))))) h = absurd (omega (arith, (type-range (suc (suc (suc (suc (suc (suc (suc (suc n)))))))) h).1))
+number-numbered (suc (suc (suc (suc (suc (suc (suc (suc n)))))))) h = absurd (omega (arith, (type_range (suc (suc (suc (suc (suc (suc (suc (suc n)))))))) h).1))
 
-begin-is : (e : Flat) → WellFormed e → is_type e.kind ≡ true → beginE (number (numbered e.kind)) e.tagged e.size e.idx ≡ e
-unfolding beginE
+begin-is : (e : Flat) → WellFormed e → is_type e.kind ≡ true → begin_e (number (numbered e.kind)) e.tagged e.size e.idx ≡ e
+unfolding begin_e
 begin-is e w h =
-    let u = well-unused e w in
-    let far : e.kind ≤ 39 = omega (arith, (type-range e.kind h).1) in
-    let p = no-pair e.kind far in
-    let q = no-present e.kind far in
+    let u = well_unused e w in
+    let far : e.kind ≤ 39 = omega (arith, (type_range e.kind h).1) in
+    let p = no_pair_lem e.kind far in
+    let q = no_present e.kind far in
     λ i. record { kind = number-numbered e.kind h i; tagged = e.tagged; present = u.present q i; size = e.size; idx = e.idx; x = u.x p i; y = u.y p i; z = u.z q i; m = u.m q i; t = u.t q i; tm = u.tm q i }
 
-end_is : (e : Flat) → WellFormed e → is_type (e.kind - 32) ≡ true → endE (number (numbered (e.kind - 32))) e.tagged e.idx ≡ e
-unfolding endE
+end_is : (e : Flat) → WellFormed e → is_type (e.kind - 32) ≡ true → end_e (number (numbered (e.kind - 32))) e.tagged e.idx ≡ e
+unfolding end_e
 end_is e w h =
-    let u = well-unused e w in
-    let r = type-range (e.kind - 32) h in
+    let u = well_unused e w in
+    let r = type_range (e.kind - 32) h in
     let n : number (numbered (e.kind - 32)) + 32 ≡ e.kind = omega (arith, number-numbered (e.kind - 32) h, r.0) in
     let far : e.kind ≤ 39 = omega (arith, r.1) in
-    let p = no-pair e.kind far in
-    let q = no-present e.kind far in
+    let p = no_pair_lem e.kind far in
+    let q = no_present e.kind far in
     let s = no_size e.kind (omega (arith, r.0)) in
     λ i. record { kind = n i; tagged = e.tagged; present = u.present q i; size = u.size s i; idx = e.idx; x = u.x p i; y = u.y p i; z = u.z q i; m = u.m q i; t = u.t q i; tm = u.tm q i }
 
-pair_is : (e : Flat) → WellFormed e → eqb e.kind 64 ≡ true → xyE e.x e.y e.idx ≡ e
-unfolding xyE
+pair_is : (e : Flat) → WellFormed e → eqb e.kind 64 ≡ true → xy_e e.x e.y e.idx ≡ e
+unfolding xy_e
 pair_is e w h =
-    let u = well-unused e w in
+    let u = well_unused e w in
     let n = eqb-true e.kind 64 h in
-    let q : usesPresent e.kind ≡ false = ap usesPresent n in
-    λ i. record { kind = sym n i; tagged = u.tagged (ap usesTagged n) i; present = u.present q i; size = u.size (ap usesSize n) i; idx = e.idx; x = e.x; y = e.y; z = u.z q i; m = u.m q i; t = u.t q i; tm = u.tm q i }
+    let q : uses_present e.kind ≡ false = ap uses_present n in
+    λ i. record { kind = sym n i; tagged = u.tagged (ap uses_tagged n) i; present = u.present q i; size = u.size (ap uses_size n) i; idx = e.idx; x = e.x; y = e.y; z = u.z q i; m = u.m q i; t = u.t q i; tm = u.tm q i }
 
 abbrev Is : Flat → Event → Type 0
-Is e (begin type tagged size idx) = beginE (number type) tagged size idx ≡ e
-Is e (end type tagged idx) = endE (number type) tagged idx ≡ e
-Is e (pair x y idx) = xyE x y idx ≡ e
+Is e (begin type tagged size idx) = begin_e (number type) tagged size idx ≡ e
+Is e (end type tagged idx) = end_e (number type) tagged idx ≡ e
+Is e (pair x y idx) = xy_e x y idx ≡ e
 Is e (strange kind) = Unit {0}
 
 read_is : (e : Flat) → WellFormed e → Is e (read e)
 read_is e w = go (is_type e.kind) refl (is_type (e.kind - 32)) refl (eqb e.kind 64) refl
   where
-    go : (b : Bool) → is_type e.kind ≡ b → (c : Bool) → is_type (e.kind - 32) ≡ c → (d : Bool) → eqb e.kind 64 ≡ d → Is e (readAs b c d e)
+    go : (b : Bool) → is_type e.kind ≡ b → (c : Bool) → is_type (e.kind - 32) ≡ c → (d : Bool) → eqb e.kind 64 ≡ d → Is e (read_as b c d e)
     go true h c i d j = begin-is e w h
     go false h true i d j = end_is e w i
     go false h false i true j = pair_is e w j
@@ -187,7 +187,7 @@ module _ (R : Rules) where
   plain (begin type tagged size idx) s t h = tt
   plain (end type tagged idx) s t h = tt
   plain (pair x y idx) s t h = tt
-  plain (strange kind) (within f fs) t h = not-both 21 t h
+  plain (strange kind) (within f fs) t h = not_both 21 t h
 
   -- a row that is taken, flat and read again, is that row
   taken-row : (es : List Event) (s t : State) → run R es s ≡ taken t → map read (map flat es) ≡ es
@@ -196,7 +196,7 @@ module _ (R : Rules) where
     where
       go : (a : Answer) → step R s e ≡ a → and_then a (λ u. run R es u) ≡ taken t → ((u : State) → run R es u ≡ taken t → map read (map flat es) ≡ es) → read (flat e) ∷ map read (map flat es) ≡ e ∷ es
       go (taken u) q k later = let p = read-flat e (plain e s u q) in let r = later u k in λ i. p i ∷ r i
-      go (refused n) q k later = absurd (not-both n t k)
+      go (refused n) q k later = absurd (not_both n t k)
 
   -- and so is a row of well-formed flat events whose reading is taken
   read-row : (es : List Flat) (s t : State) → Each WellFormed es → run R (map read es) s ≡ taken t → map flat (map read es) ≡ es
@@ -205,10 +205,10 @@ module _ (R : Rules) where
     where
       go : (a : Answer) → step R s (read e) ≡ a → and_then a (λ u. run R (map read es) u) ≡ taken t → ((u : State) → run R (map read es) u ≡ taken t → map flat (map read es) ≡ es) → flat (read e) ∷ map flat (map read es) ≡ e ∷ es
       go (taken u) q k later = let p = flat-read e (read e) (plain (read e) s u q) (read_is e w.0) in let r = later u k in λ i. p i ∷ r i
-      go (refused n) q k later = absurd (not-both n t k)
+      go (refused n) q k later = absurd (not_both n t k)
 
-  pub flat-exactly : (es : List Flat) → Each WellFormed es → (run R (map read es) start ≡ taken closed) ↔ FlatWhole R es
-  flat-exactly es formed = (to, from)
+  pub flat_exactly : (es : List Flat) → Each WellFormed es → (run R (map read es) start ≡ taken closed) ↔ FlatWhole R es
+  flat_exactly es formed = (to, from)
     where
       to : run R (map read es) start ≡ taken closed → FlatWhole R es
       to h =
@@ -223,7 +223,7 @@ module _ (R : Rules) where
       from : FlatWhole R es → run R (map read es) start ≡ taken closed
       from w =
           let taken-whole = accepts R w.n w.geometry w.rule in
-          let read_whole : map read es ≡ eventsOf w.n w.geometry =
+          let read_whole : map read es ≡ events_of w.n w.geometry =
           ap (λ (l : List Flat). map read l) (sym (events-flat w.n w.geometry ∙ w.tell))
-          ∙ taken-row (eventsOf w.n w.geometry) start closed taken-whole in
+          ∙ taken-row (events_of w.n w.geometry) start closed taken-whole in
           ap (λ (l : List Event). run R l start) read_whole ∙ taken-whole

@@ -4,7 +4,7 @@ use Rattle.std.proofs.Common.{sym, ap, ◌∙◌}
 use Rattle.std.proofs.lemmas.List.{length-map}
 use Rattle.planar.specs.Geometry.{Geometry}
 use Rattle.planar.specs.Any.{Any, collect, ByShape, collect-is}
-use Rattle.nesting.specs.Events.{GeometryType, Collection, Event, begin, end, Tells, each, group, geometryOf}
+use Rattle.nesting.specs.Events.{GeometryType, Collection, Event, begin, end, Tells, each, group, geometry_of}
 use Rattle.planar.specs.Fits.{Each}
 use Rattle.nesting.specs.Rules.{Rules, MayHold, Clear, LevelRule, GeometryRule}
 use Rattle.nesting.specs.Inside.{any_of, Keeps}
@@ -22,29 +22,29 @@ each-through q P [] = refl
 each-through q P (a ∷ xs) = λ j. P (q a) × each-through q P xs j
 
 -- ---- its events
-told-by-shape : ByShape geometryOf (group Collection false (λ t. t))
-told-by-shape = record { alone = λ n s. refl; members = λ n gs j i k. sym (group-through (geometryOf n) Collection false (λ t. t) gs i k) j }
+told_by_shape : ByShape geometry_of (group Collection false (λ t. t))
+told_by_shape = record { alone = λ n s. refl; members = λ n gs j i k. sym (group-through (geometry_of n) Collection false (λ t. t) gs i k) j }
 
 pub collect-tells : (xs : List Any) (i : ℕ) (k : List Event) → any_of (collect xs) i k ≡ group Collection false any_of xs i k
 collect-tells xs i k =
-    ap (λ (t : ℕ → List Event → List Event). t i k) (collect-is geometryOf (group Collection false (λ t. t)) told-by-shape xs)
+    ap (λ (t : ℕ → List Event → List Event). t i k) (collect-is geometry_of (group Collection false (λ t. t)) told_by_shape xs)
     ∙ group-through any_of Collection false (λ t. t) xs i k
 
 -- ---- its rule
 module _ (R : Rules) where
-  abbrev ruleOf : (n : ℕ) → Geometry n → ℕ → Type 0
-  ruleOf n g level = GeometryRule R n level g
+  abbrev rule_of : (n : ℕ) → Geometry n → ℕ → Type 0
+  rule_of n g level = GeometryRule R n level g
 
-  abbrev allRule : List (ℕ → Type 0) → ℕ → Type 0
-  allRule rules level = MayHold R Collection (length rules) × Clear R Collection level (length rules) × Each (λ rule. rule (suc level)) rules
+  abbrev all_rule : List (ℕ → Type 0) → ℕ → Type 0
+  all_rule rules level = MayHold R Collection (length rules) × Clear R Collection level (length rules) × Each (λ rule. rule (suc level)) rules
 
-  rule-through : {A : Type 0} (q : A → ℕ → Type 0) (xs : List A) (level : ℕ) → allRule (map q xs) level ≡ LevelRule R Collection level (λ a. q a (suc level)) xs
-  rule-through q xs level = λ j. MayHold R Collection (length-map xs q j) × Clear R Collection level (length-map xs q j) × each-through q (λ rule. rule (suc level)) xs j
+  rule_through : {A : Type 0} (q : A → ℕ → Type 0) (xs : List A) (level : ℕ) → all_rule (map q xs) level ≡ LevelRule R Collection level (λ a. q a (suc level)) xs
+  rule_through q xs level = λ j. MayHold R Collection (length-map xs q j) × Clear R Collection level (length-map xs q j) × each-through q (λ rule. rule (suc level)) xs j
 
-  rule-by-shape : ByShape ruleOf allRule
-  rule-by-shape = record { alone = λ n s. refl; members = λ n gs j level. sym (rule-through (ruleOf n) gs level) j }
+  rule_by_shape : ByShape rule_of all_rule
+  rule_by_shape = record { alone = λ n s. refl; members = λ n gs j level. sym (rule_through (rule_of n) gs level) j }
 
-  pub collect-rule : (xs : List Any) (level : ℕ) → Keeps R Collection level (collect xs) ≡ LevelRule R Collection level (Keeps R Collection (suc level)) xs
-  collect-rule xs level =
-      ap (λ (rule : ℕ → Type 0). rule level) (collect-is ruleOf allRule rule-by-shape xs)
-      ∙ rule-through (λ a. ruleOf a.n a.geometry) xs level
+  pub collect_rule : (xs : List Any) (level : ℕ) → Keeps R Collection level (collect xs) ≡ LevelRule R Collection level (Keeps R Collection (suc level)) xs
+  collect_rule xs level =
+      ap (λ (rule : ℕ → Type 0). rule level) (collect-is rule_of all_rule rule_by_shape xs)
+      ∙ rule_through (λ a. rule_of a.n a.geometry) xs level

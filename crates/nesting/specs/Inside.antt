@@ -2,7 +2,7 @@
 use Rattle.std.specs.Prelude.{Bool, List, [], ◌∷◌, ℕ, suc, ◌+◌, ◌≡◌, length}
 use Rattle.planar.specs.Geometry.{Coord, Line, Rings}
 use Rattle.planar.specs.Any.{Any}
-use Rattle.nesting.specs.Events.{GeometryType, Point, LineString, Polygon, MultiPoint, MultiLineString, MultiPolygon, Collection, Event, end, Tells, each, coordOf, line_of, ringsOf, geometryOf}
+use Rattle.nesting.specs.Events.{GeometryType, Point, LineString, Polygon, MultiPoint, MultiLineString, MultiPolygon, Collection, Event, end, Tells, each, coord_of, line_of, rings_of, geometry_of}
 use Rattle.planar.specs.Fits.{Each}
 use Rattle.nesting.specs.Rules.{Rules, PairRule, LineRule, RingsRule, GeometryRule}
 use Rattle.nesting.specs.Machine.{Frame, State, within}
@@ -17,15 +17,15 @@ Inside MultiPolygon = Rings
 Inside Collection = Any
 
 abbrev pub any_of : Tells Any
-any_of a = geometryOf a.n a.geometry
+any_of a = geometry_of a.n a.geometry
 
 abbrev pub tells : (type : GeometryType) → Tells (Inside type)
-tells Point = coordOf
-tells LineString = coordOf
+tells Point = coord_of
+tells LineString = coord_of
 tells Polygon = line_of
-tells MultiPoint = coordOf
+tells MultiPoint = coord_of
 tells MultiLineString = line_of
-tells MultiPolygon = ringsOf
+tells MultiPolygon = rings_of
 tells Collection = any_of
 
 module _ (R : Rules) where

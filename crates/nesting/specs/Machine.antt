@@ -49,14 +49,14 @@ same true b = b
 same false b = not b
 
 -- the types whose things are pairs
-abbrev pub ofPairs : GeometryType → Bool
-ofPairs Point = true
-ofPairs LineString = true
-ofPairs Polygon = false
-ofPairs MultiPoint = true
-ofPairs MultiLineString = false
-ofPairs MultiPolygon = false
-ofPairs Collection = false
+abbrev pub of_pairs : GeometryType → Bool
+of_pairs Point = true
+of_pairs LineString = true
+of_pairs Polygon = false
+of_pairs MultiPoint = true
+of_pairs MultiLineString = false
+of_pairs MultiPolygon = false
+of_pairs Collection = false
 
 -- how many things a begin promises: a Point has one pair, its size field is 0
 abbrev pub count : GeometryType → ℕ → ℕ
@@ -72,45 +72,45 @@ count Collection n = n
 -- stands there.
 pub data Place : Type 0 where
   here : Bool → Place
-  tooDeep : Place
+  too_deep : Place
   nowhere : Place
 
-abbrev pub onlyLines : GeometryType → Place
-onlyLines Point = nowhere
-onlyLines LineString = here false
-onlyLines Polygon = nowhere
-onlyLines MultiPoint = nowhere
-onlyLines MultiLineString = nowhere
-onlyLines MultiPolygon = nowhere
-onlyLines Collection = nowhere
+abbrev pub only_lines : GeometryType → Place
+only_lines Point = nowhere
+only_lines LineString = here false
+only_lines Polygon = nowhere
+only_lines MultiPoint = nowhere
+only_lines MultiLineString = nowhere
+only_lines MultiPolygon = nowhere
+only_lines Collection = nowhere
 
-abbrev pub onlyPolygons : GeometryType → Place
-onlyPolygons Point = nowhere
-onlyPolygons LineString = nowhere
-onlyPolygons Polygon = here false
-onlyPolygons MultiPoint = nowhere
-onlyPolygons MultiLineString = nowhere
-onlyPolygons MultiPolygon = nowhere
-onlyPolygons Collection = nowhere
+abbrev pub only_polygons : GeometryType → Place
+only_polygons Point = nowhere
+only_polygons LineString = nowhere
+only_polygons Polygon = here false
+only_polygons MultiPoint = nowhere
+only_polygons MultiLineString = nowhere
+only_polygons MultiPolygon = nowhere
+only_polygons Collection = nowhere
 
-abbrev pub oneMore : Frame → Frame
-oneMore f = frame f.type f.tagged f.idx f.size (f.done + 1)
+abbrev pub one_more : Frame → Frame
+one_more f = frame f.type f.tagged f.idx f.size (f.done + 1)
 
 -- An end repeats its begin's type, tag and idx, once all is there;
-abbrev pub endFits : Frame → GeometryType → Bool → ℕ → Bool
-endFits f type tagged idx = eqb (number type) (number f.type) && same tagged f.tagged && eqb idx f.idx && eqb f.done f.size
+abbrev pub end_fits : Frame → GeometryType → Bool → ℕ → Bool
+end_fits f type tagged idx = eqb (number type) (number f.type) && same tagged f.tagged && eqb idx f.idx && eqb f.done f.size
 
 -- a pair has the next index, and numbers that a u64 holds.
-abbrev pub pairFits : Frame → ℕ → ℕ → ℕ → Bool
-pairFits f x y idx = ofPairs f.type && ltb f.done f.size && eqb idx f.done && ltb x limit64 && ltb y limit64
+abbrev pub pair_fits : Frame → ℕ → ℕ → ℕ → Bool
+pair_fits f x y idx = of_pairs f.type && ltb f.done f.size && eqb idx f.done && ltb x limit64 && ltb y limit64
 
 -- what is around an ended geometry has one more thing; the outermost has no end
 abbrev pub end_at : Frame → List Frame → GeometryType → Bool → ℕ → Answer
 end_at f [] type tagged idx = refused 21
-end_at f (p ∷ fs) type tagged idx = cond (endFits f type tagged idx) (taken (within (oneMore p) fs)) (refused 21)
+end_at f (p ∷ fs) type tagged idx = cond (end_fits f type tagged idx) (taken (within (one_more p) fs)) (refused 21)
 
 abbrev pub pair_at : Frame → List Frame → ℕ → ℕ → ℕ → Answer
-pair_at f fs x y idx = cond (pairFits f x y idx) (taken (within (oneMore f) fs)) (refused 21)
+pair_at f fs x y idx = cond (pair_fits f x y idx) (taken (within (one_more f) fs)) (refused 21)
 
 -- a row of events goes on until one is refused
 abbrev pub and_then : Answer → (State → Answer) → Answer
@@ -120,7 +120,7 @@ and_then (refused n) f = refused n
 module _ (R : Rules) where
   -- the sizes that a begin may have
   abbrev pub enough : GeometryType → ℕ → Bool
-  enough type n = (R.mayBeEmpty type || leb 1 n) && ltb n limit
+  enough type n = (R.may_be_empty type || leb 1 n) && ltb n limit
 
   abbrev pub allowed : GeometryType → ℕ → Bool
   allowed Point n = eqb n 0
@@ -133,10 +133,10 @@ module _ (R : Rules) where
 
   -- whether a type of n members at this level has them at a level that is too deep
   abbrev pub exceeds : GeometryType → ℕ → ℕ → Bool
-  exceeds type level n = R.opens type && leb 1 n && R.tooDeep (suc level)
+  exceeds type level n = R.opens type && leb 1 n && R.too_deep (suc level)
 
   abbrev pub parts : GeometryType → ℕ → ℕ → Place
-  parts type level n = cond (exceeds type level n) tooDeep (here false)
+  parts type level n = cond (exceeds type level n) too_deep (here false)
 
   abbrev pub member : ℕ → GeometryType → ℕ → Place
   member level Point n = here false
@@ -151,25 +151,25 @@ module _ (R : Rules) where
   abbrev pub place : GeometryType → ℕ → GeometryType → ℕ → Place
   place Point level type n = nowhere
   place LineString level type n = nowhere
-  place Polygon level type n = onlyLines type
+  place Polygon level type n = only_lines type
   place MultiPoint level type n = nowhere
-  place MultiLineString level type n = onlyLines type
-  place MultiPolygon level type n = onlyPolygons type
+  place MultiLineString level type n = only_lines type
+  place MultiPolygon level type n = only_polygons type
   place Collection level type n = member level type n
 
   -- a begin has the next index, the tag of its place and a size that its type may have
-  abbrev pub beginFits : Frame → Bool → GeometryType → Bool → ℕ → ℕ → Bool
-  beginFits f tag type tagged size idx = ltb f.done f.size && eqb idx f.done && same tagged tag && allowed type size
+  abbrev pub begin_fits : Frame → Bool → GeometryType → Bool → ℕ → ℕ → Bool
+  begin_fits f tag type tagged size idx = ltb f.done f.size && eqb idx f.done && same tagged tag && allowed type size
 
   -- 13 before 21: by level, type and size alone
-  abbrev pub beginAt : Place → Frame → List Frame → GeometryType → Bool → ℕ → ℕ → Answer
-  beginAt (here tag) f fs type tagged size idx = cond (beginFits f tag type tagged size idx) (taken (within (frame type tagged idx (count type size) 0) (f ∷ fs))) (refused 21)
-  beginAt tooDeep f fs type tagged size idx = refused 13
-  beginAt nowhere f fs type tagged size idx = refused 21
+  abbrev pub begin_at : Place → Frame → List Frame → GeometryType → Bool → ℕ → ℕ → Answer
+  begin_at (here tag) f fs type tagged size idx = cond (begin_fits f tag type tagged size idx) (taken (within (frame type tagged idx (count type size) 0) (f ∷ fs))) (refused 21)
+  begin_at too_deep f fs type tagged size idx = refused 13
+  begin_at nowhere f fs type tagged size idx = refused 21
 
   -- the root, with no geometry around it, is at level 1
   abbrev pub step : State → Event → Answer
-  step (within f fs) (begin type tagged size idx) = beginAt (place f.type (suc (length fs)) type size) f fs type tagged size idx
+  step (within f fs) (begin type tagged size idx) = begin_at (place f.type (suc (length fs)) type size) f fs type tagged size idx
   step (within f fs) (end type tagged idx) = end_at f fs type tagged idx
   step (within f fs) (pair x y idx) = pair_at f fs x y idx
   step (within f fs) (strange kind) = refused 21

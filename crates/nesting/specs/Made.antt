@@ -5,15 +5,15 @@ use Rattle.std.proofs.Math.Path.{subst⁻¹}
 use mathlib.Core.List.{List, [], ◌∷◌}
 use Rattle.std.proofs.lemmas.List.{length-replicate}
 use Rattle.laws.specs.Every.{never}
-use Rattle.planar.specs.Geometry.{Coord, point, lineString, polygon, multiPoint, multiLineString, multiPolygon}
+use Rattle.planar.specs.Geometry.{Coord, point, line_string, polygon, multi_point, multi_line_string, multi_polygon}
 use Rattle.planar.specs.Any.{Any, any, collect}
 use Rattle.nesting.specs.Events.{GeometryType, Point, LineString, Polygon, MultiPoint, MultiLineString, MultiPolygon, Collection, Event, begin, end, pair, each, group}
 use Rattle.planar.specs.Fits.{Each}
 use Rattle.nesting.specs.Rules.{Rules, limit64, PairRule, MayHold, Clear, LevelRule}
-use Rattle.nesting.specs.Machine.{Place, here, tooDeep, nowhere, exceeds, member, place, count, ofPairs}
+use Rattle.nesting.specs.Machine.{Place, here, too_deep, nowhere, exceeds, member, place, count, of_pairs}
 use Rattle.nesting.specs.Inside.{Inside, tells, Keeps, Left}
-use Rattle.nesting.specs.Gathered.{collect-tells, collect-rule}
-use Rattle.nesting.specs.Tests.{exceeds-false}
+use Rattle.nesting.specs.Gathered.{collect-tells, collect_rule}
+use Rattle.nesting.specs.Tests.{exceeds_false}
 
 abbrev origin : Coord
 origin = record { x = 0; y = 0 }
@@ -35,15 +35,15 @@ each-replicate : {A : Type 0} (P : A → Type 0) (a : A) → P a → (n : ℕ) �
 each-replicate P a p zero = tt
 each-replicate P a p (suc n) = (p, each-replicate P a p n)
 
-the-point : (xs : List Coord) → 0 + length xs ≡ 1 → Any
-the-point [] e = absurd (omega arith)
-the-point (c ∷ xs) e = any zero (point c)
+the_point : (xs : List Coord) → 0 + length xs ≡ 1 → Any
+the_point [] e = absurd (omega arith)
+the_point (c ∷ xs) e = any zero (point c)
 
-the-point-tells : (xs : List Coord) (e : 0 + length xs ≡ 1) (i : ℕ) (k : List Event) → tells Collection (the-point xs e) i k ≡ begin Point false 0 i ∷ each (tells Point) xs 0 (end Point false i ∷ k)
-unfolding the-point
-the-point-tells [] e i k = absurd (omega arith)
-the-point-tells (c ∷ []) e i k = refl
-the-point-tells (c ∷ d ∷ xs) e i k = absurd (omega arith)
+the_point_tells : (xs : List Coord) (e : 0 + length xs ≡ 1) (i : ℕ) (k : List Event) → tells Collection (the_point xs e) i k ≡ begin Point false 0 i ∷ each (tells Point) xs 0 (end Point false i ∷ k)
+unfolding the_point
+the_point_tells [] e i k = absurd (omega arith)
+the_point_tells (c ∷ []) e i k = refl
+the_point_tells (c ∷ d ∷ xs) e i k = absurd (omega arith)
 
 module _ (R : Rules) where
   -- A begin of `type` that stands inside `outer`: whatever comes inside it, the whole is one of the outer's things; and something can come.
@@ -55,7 +55,7 @@ module _ (R : Rules) where
 
   abbrev pub OnPlace : GeometryType → ℕ → GeometryType → ℕ → Place → Type 0
   OnPlace outer level type size (here tagged) = MayHold R type size → Made outer level type tagged size
-  OnPlace outer level type size tooDeep = Unit {0}
+  OnPlace outer level type size too_deep = Unit {0}
   OnPlace outer level type size nowhere = Unit {0}
 
   -- a pair, where pairs stand
@@ -64,7 +64,7 @@ module _ (R : Rules) where
     pub keeps : Keeps R outer level thing
     pub tell : (i : ℕ) (k : List Event) → tells outer thing i k ≡ pair x y i ∷ k
 
-  pub paired : (outer : GeometryType) (level x y : ℕ) → ofPairs outer ≡ true → x < limit64 → y < limit64 → Pair outer level x y
+  pub paired : (outer : GeometryType) (level x y : ℕ) → of_pairs outer ≡ true → x < limit64 → y < limit64 → Pair outer level x y
   paired Point level x y e h k = record { thing = record { x = x; y = y }; keeps = (h, k); tell = λ i k. refl }
   paired LineString level x y e h k = record { thing = record { x = x; y = y }; keeps = (h, k); tell = λ i k. refl }
   paired Polygon level x y e h k = absurd (never e)
@@ -107,26 +107,26 @@ module _ (R : Rules) where
     }
 
   -- a line inside a Polygon or MultiLineString, a polygon inside a MultiPolygon
-  line-in-polygon : (level size : ℕ) → MayHold R LineString size → Made Polygon level LineString false size
-  line-in-polygon level size ok = grouped Polygon level LineString false size refl (MayHold R LineString) ok (λ xs. xs) (λ xs a h. (a, h)) (λ xs i k. refl)
+  line_in_polygon : (level size : ℕ) → MayHold R LineString size → Made Polygon level LineString false size
+  line_in_polygon level size ok = grouped Polygon level LineString false size refl (MayHold R LineString) ok (λ xs. xs) (λ xs a h. (a, h)) (λ xs i k. refl)
 
-  line-in-lines : (level size : ℕ) → MayHold R LineString size → Made MultiLineString level LineString false size
-  line-in-lines level size ok = grouped MultiLineString level LineString false size refl (MayHold R LineString) ok (λ xs. xs) (λ xs a h. (a, h)) (λ xs i k. refl)
+  line_in_lines : (level size : ℕ) → MayHold R LineString size → Made MultiLineString level LineString false size
+  line_in_lines level size ok = grouped MultiLineString level LineString false size refl (MayHold R LineString) ok (λ xs. xs) (λ xs a h. (a, h)) (λ xs i k. refl)
 
-  polygon-in-polygons : (level size : ℕ) → MayHold R Polygon size → Made MultiPolygon level Polygon false size
-  polygon-in-polygons level size ok = grouped MultiPolygon level Polygon false size refl (MayHold R Polygon) ok (λ xs. xs) (λ xs a h. (a, h)) (λ xs i k. refl)
+  polygon_in_polygons : (level size : ℕ) → MayHold R Polygon size → Made MultiPolygon level Polygon false size
+  polygon_in_polygons level size ok = grouped MultiPolygon level Polygon false size refl (MayHold R Polygon) ok (λ xs. xs) (λ xs a h. (a, h)) (λ xs i k. refl)
 
   -- ---- members of a collection
-  the-point-keeps : (level : ℕ) (xs : List Coord) (e : 0 + length xs ≡ 1) → Each PairRule xs → Keeps R Collection level (the-point xs e)
-  unfolding the-point
-  the-point-keeps level [] e h = absurd (omega arith)
-  the-point-keeps level (c ∷ xs) e h = h.0
+  the_point_keeps : (level : ℕ) (xs : List Coord) (e : 0 + length xs ≡ 1) → Each PairRule xs → Keeps R Collection level (the_point xs e)
+  unfolding the_point
+  the_point_keeps level [] e h = absurd (omega arith)
+  the_point_keeps level (c ∷ xs) e h = h.0
 
   point-member : (level size : ℕ) → size ≡ 0 → Made Collection level Point false size
   point-member level size e = record {
-    thing = λ r. the-point r.things r.fill;
-    keeps = λ r. the-point-keeps level r.things r.fill r.keep;
-    tell = λ r i k. rw e (the-point-tells r.things r.fill i k);
+    thing = λ r. the_point r.things r.fill;
+    keeps = λ r. the_point_keeps level r.things r.fill r.keep;
+    tell = λ r i k. rw e (the_point_tells r.things r.fill i k);
     default = many Point (suc level) origin at-origin 1;
   }
 
@@ -135,27 +135,27 @@ module _ (R : Rules) where
       (put : List (Inside type) → Any)
       (keep : (xs : List (Inside type)) → LevelRule R type level (Keeps R type (suc level)) xs → Keeps R Collection level (put xs))
       (tell : (xs : List (Inside type)) (i : ℕ) (k : List Event) → tells Collection (put xs) i k ≡ group type false (tells type) xs i k) where
-    opened : OnPlace Collection level type size (cond (exceeds R type level size) tooDeep (here false))
+    opened : OnPlace Collection level type size (cond (exceeds R type level size) too_deep (here false))
     opened = go _ refl
       where
-        go : (b : Bool) → exceeds R type level size ≡ b → OnPlace Collection level type size (cond b tooDeep (here false))
+        go : (b : Bool) → exceeds R type level size ≡ b → OnPlace Collection level type size (cond b too_deep (here false))
         go true e = tt
-        go false e = λ ok. grouped Collection level type false size counts (λ n. MayHold R type n × Clear R type level n) (ok, exceeds-false R type level size e) put (λ xs a h. keep xs (a.0, a.1, h)) tell
+        go false e = λ ok. grouped Collection level type false size counts (λ n. MayHold R type n × Clear R type level n) (ok, exceeds_false R type level size e) put (λ xs a h. keep xs (a.0, a.1, h)) tell
 
   members : (level : ℕ) (type : GeometryType) (size : ℕ) → OnPlace Collection level type size (member R level type size)
   members level Point size = λ ok. point-member level size ok
-  members level LineString size = λ ok. grouped Collection level LineString true size refl (MayHold R LineString) ok (λ xs. any zero (lineString xs)) (λ xs a h. (a, h)) (λ xs i k. refl)
+  members level LineString size = λ ok. grouped Collection level LineString true size refl (MayHold R LineString) ok (λ xs. any zero (line_string xs)) (λ xs a h. (a, h)) (λ xs i k. refl)
   members level Polygon size = λ ok. grouped Collection level Polygon true size refl (MayHold R Polygon) ok (λ xs. any zero (polygon xs)) (λ xs a h. (a, h)) (λ xs i k. refl)
-  members level MultiPoint size = opened level MultiPoint size refl (λ xs. any zero (multiPoint xs)) (λ xs h. h) (λ xs i k. refl)
-  members level MultiLineString size = opened level MultiLineString size refl (λ xs. any zero (multiLineString xs)) (λ xs h. h) (λ xs i k. refl)
-  members level MultiPolygon size = opened level MultiPolygon size refl (λ xs. any zero (multiPolygon xs)) (λ xs h. h) (λ xs i k. refl)
-  members level Collection size = opened level Collection size refl collect (λ xs h. subst⁻¹ (λ (X : Type 0). X) (collect-rule R xs level) h) collect-tells
+  members level MultiPoint size = opened level MultiPoint size refl (λ xs. any zero (multi_point xs)) (λ xs h. h) (λ xs i k. refl)
+  members level MultiLineString size = opened level MultiLineString size refl (λ xs. any zero (multi_line_string xs)) (λ xs h. h) (λ xs i k. refl)
+  members level MultiPolygon size = opened level MultiPolygon size refl (λ xs. any zero (multi_polygon xs)) (λ xs h. h) (λ xs i k. refl)
+  members level Collection size = opened level Collection size refl collect (λ xs h. subst⁻¹ (λ (X : Type 0). X) (collect_rule R xs level) h) collect-tells
 
   pub made : (outer : GeometryType) (level : ℕ) (type : GeometryType) (size : ℕ) → OnPlace outer level type size (place R outer level type size)
   made Point level type size = tt
   made LineString level type size = tt
   made Polygon level Point size = tt
-  made Polygon level LineString size = line-in-polygon level size
+  made Polygon level LineString size = line_in_polygon level size
   made Polygon level Polygon size = tt
   made Polygon level MultiPoint size = tt
   made Polygon level MultiLineString size = tt
@@ -163,7 +163,7 @@ module _ (R : Rules) where
   made Polygon level Collection size = tt
   made MultiPoint level type size = tt
   made MultiLineString level Point size = tt
-  made MultiLineString level LineString size = line-in-lines level size
+  made MultiLineString level LineString size = line_in_lines level size
   made MultiLineString level Polygon size = tt
   made MultiLineString level MultiPoint size = tt
   made MultiLineString level MultiLineString size = tt
@@ -171,7 +171,7 @@ module _ (R : Rules) where
   made MultiLineString level Collection size = tt
   made MultiPolygon level Point size = tt
   made MultiPolygon level LineString size = tt
-  made MultiPolygon level Polygon size = polygon-in-polygons level size
+  made MultiPolygon level Polygon size = polygon_in_polygons level size
   made MultiPolygon level MultiPoint size = tt
   made MultiPolygon level MultiLineString size = tt
   made MultiPolygon level MultiPolygon size = tt

@@ -1,14 +1,14 @@
 -- The rules of a geometry: how many things each type may hold, numbers that a u32 and a u64 hold, and levels that are not too deep.
 use Rattle.std.specs.Prelude.{◌≡◌, Bool, true, false, List, ℕ, zero, suc, ◌<◌, ◌≤◌, length}
-use Rattle.planar.specs.Geometry.{Coord, Line, Rings, Simple, point, lineString, polygon, multiPoint, multiLineString, multiPolygon, simple, collection, Geometry}
+use Rattle.planar.specs.Geometry.{Coord, Line, Rings, Simple, point, line_string, polygon, multi_point, multi_line_string, multi_polygon, simple, collection, Geometry}
 use Rattle.planar.specs.Fits.{Each, FitsCoord}
 use Rattle.nesting.specs.Events.{GeometryType, Point, LineString, Polygon, MultiPoint, MultiLineString, MultiPolygon, Collection}
 
 -- What a use of the machine chooses: which types may be empty, whose members lie one level deeper, and which levels are too deep.
 pub record Rules : Type 0 where
-  pub mayBeEmpty : GeometryType → Bool
+  pub may_be_empty : GeometryType → Bool
   pub opens : GeometryType → Bool
-  pub tooDeep : ℕ → Bool
+  pub too_deep : ℕ → Bool
 
 -- what a u32 and a u64 hold is below these
 abbrev pub limit : ℕ
@@ -22,7 +22,7 @@ PairRule = FitsCoord
 
 module _ (R : Rules) where
   abbrev pub Enough : GeometryType → ℕ → Type 0
-  Enough type n = (R.mayBeEmpty type ≡ false → 1 ≤ n) × (n < limit)
+  Enough type n = (R.may_be_empty type ≡ false → 1 ≤ n) × (n < limit)
 
   -- a Point's begin says 0, and it holds one pair
   abbrev pub MayHold : GeometryType → ℕ → Type 0
@@ -36,7 +36,7 @@ module _ (R : Rules) where
 
   -- a geometry at this level, with n members: those that lie one level deeper are not too deep
   abbrev pub Clear : GeometryType → ℕ → ℕ → Type 0
-  Clear type level n = R.opens type ≡ true → 1 ≤ n → R.tooDeep (suc level) ≡ false
+  Clear type level n = R.opens type ≡ true → 1 ≤ n → R.too_deep (suc level) ≡ false
 
   -- lines and polygons hold nothing that is a level
   abbrev pub ByRule : {A : Type 0} → GeometryType → (A → Type 0) → List A → Type 0
@@ -53,11 +53,11 @@ module _ (R : Rules) where
 
   abbrev pub SimpleRule : ℕ → Simple → Type 0
   SimpleRule level (point c) = PairRule c
-  SimpleRule level (lineString l) = LineRule l
+  SimpleRule level (line_string l) = LineRule l
   SimpleRule level (polygon rs) = RingsRule rs
-  SimpleRule level (multiPoint cs) = LevelRule MultiPoint level PairRule cs
-  SimpleRule level (multiLineString ls) = LevelRule MultiLineString level LineRule ls
-  SimpleRule level (multiPolygon ps) = LevelRule MultiPolygon level RingsRule ps
+  SimpleRule level (multi_point cs) = LevelRule MultiPoint level PairRule cs
+  SimpleRule level (multi_line_string ls) = LevelRule MultiLineString level LineRule ls
+  SimpleRule level (multi_polygon ps) = LevelRule MultiPolygon level RingsRule ps
 
   -- the root is at level 1
   abbrev pub GeometryRule : (n : ℕ) → ℕ → Geometry n → Type 0

@@ -3,8 +3,8 @@ use Rattle.std.specs.Prelude.{◌≡◌, refl, Bool, true, false, cond, List, []
 use Rattle.std.proofs.Common.{arith, eqb-true, ltb-true}
 use Rattle.nesting.specs.Events.{GeometryType, Point, LineString, Polygon, MultiPoint, MultiLineString, MultiPolygon, Collection, Event, begin, end, pair, strange}
 use Rattle.nesting.specs.Rules.{Rules, limit, limit64, MayHold}
-use Rattle.nesting.specs.Machine.{Frame, frame, State, within, start, Answer, taken, refused, same, ofPairs, count, allowed, Place, here, tooDeep, nowhere, place, oneMore, beginFits, endFits, pairFits, beginAt, end_at, pair_at, step, and_then, run}
-use Rattle.nesting.specs.Tests.{five, four, allowed-true}
+use Rattle.nesting.specs.Machine.{Frame, frame, State, within, start, Answer, taken, refused, same, of_pairs, count, allowed, Place, here, too_deep, nowhere, place, one_more, begin_fits, end_fits, pair_fits, begin_at, end_at, pair_at, step, and_then, run}
+use Rattle.nesting.specs.Tests.{five, four, allowed_true}
 
 pub record Sound (f : Frame) : Type 0 where
   pub done : f.done ≤ f.size
@@ -22,20 +22,20 @@ abbrev SoundAfter : Answer → Type 0
 SoundAfter (taken s) = SoundState s
 SoundAfter (refused n) = Unit {0}
 
-pair-sound : (f : Frame) (fs : List Frame) (x y i : ℕ) → SoundState (within f fs) → SoundAfter (pair_at f fs x y i)
-pair-sound f fs x y i h = go _ refl
+pair_sound : (f : Frame) (fs : List Frame) (x y i : ℕ) → SoundState (within f fs) → SoundAfter (pair_at f fs x y i)
+pair_sound f fs x y i h = go _ refl
   where
-    go : (b : Bool) → pairFits f x y i ≡ b → SoundAfter (cond b (taken (within (oneMore f) fs)) (refused 21))
+    go : (b : Bool) → pair_fits f x y i ≡ b → SoundAfter (cond b (taken (within (one_more f) fs)) (refused 21))
     go false e = tt
     go true e =
-        let t = five (ofPairs f.type) (ltb f.done f.size) (eqb i f.done) (ltb x limit64) (ltb y limit64) e in
+        let t = five (of_pairs f.type) (ltb f.done f.size) (eqb i f.done) (ltb x limit64) (ltb y limit64) e in
         (record { done = omega (arith, ltb-true f.done f.size t.1); size = h.0.size }, h.1)
 
-end-sound : (f : Frame) (fs : List Frame) (type : GeometryType) (tagged : Bool) (i : ℕ) → SoundState (within f fs) → SoundAfter (end_at f fs type tagged i)
-end-sound f [] type tagged i h = tt
-end-sound f (p ∷ fs) type tagged i h = go (endFits f type tagged i)
+end_sound : (f : Frame) (fs : List Frame) (type : GeometryType) (tagged : Bool) (i : ℕ) → SoundState (within f fs) → SoundAfter (end_at f fs type tagged i)
+end_sound f [] type tagged i h = tt
+end_sound f (p ∷ fs) type tagged i h = go (end_fits f type tagged i)
   where
-    go : (b : Bool) → SoundAfter (cond b (taken (within (oneMore p) fs)) (refused 21))
+    go : (b : Bool) → SoundAfter (cond b (taken (within (one_more p) fs)) (refused 21))
     go false = tt
     go true = (record { done = omega (arith, h.1.1); size = h.1.2.size }, h.1.3)
 
@@ -49,30 +49,30 @@ module _ (R : Rules) where
   held MultiPolygon size ok = ok.1
   held Collection size ok = ok.1
 
-  begin-sound : (f : Frame) (fs : List Frame) (type : GeometryType) (tagged : Bool) (size i : ℕ) (p : Place) → SoundState (within f fs) → SoundAfter (beginAt R p f fs type tagged size i)
-  begin-sound f fs type tagged size i tooDeep h = tt
-  begin-sound f fs type tagged size i nowhere h = tt
-  begin-sound f fs type tagged size i (here tag) h = go _ refl
+  begin_sound : (f : Frame) (fs : List Frame) (type : GeometryType) (tagged : Bool) (size i : ℕ) (p : Place) → SoundState (within f fs) → SoundAfter (begin_at R p f fs type tagged size i)
+  begin_sound f fs type tagged size i too_deep h = tt
+  begin_sound f fs type tagged size i nowhere h = tt
+  begin_sound f fs type tagged size i (here tag) h = go _ refl
     where
-      go : (b : Bool) → beginFits R f tag type tagged size i ≡ b → SoundAfter (cond b (taken (within (frame type tagged i (count type size) 0) (f ∷ fs))) (refused 21))
+      go : (b : Bool) → begin_fits R f tag type tagged size i ≡ b → SoundAfter (cond b (taken (within (frame type tagged i (count type size) 0) (f ∷ fs))) (refused 21))
       go false e = tt
       go true e =
           let t = four (ltb f.done f.size) (eqb i f.done) (same tagged tag) (allowed R type size) e in
-          (record { done = omega arith; size = held type size (allowed-true R type size t.3) }, (eqb-true i f.done t.1, ltb-true f.done f.size t.0, h.0, h.1))
+          (record { done = omega arith; size = held type size (allowed_true R type size t.3) }, (eqb-true i f.done t.1, ltb-true f.done f.size t.0, h.0, h.1))
 
-  step-sound : (s : State) (e : Event) → SoundState s → SoundAfter (step R s e)
-  step-sound (within f fs) (begin type tagged size i) h = begin-sound f fs type tagged size i (place R f.type (suc (length fs)) type size) h
-  step-sound (within f fs) (end type tagged i) h = end-sound f fs type tagged i h
-  step-sound (within f fs) (pair x y i) h = pair-sound f fs x y i h
-  step-sound (within f fs) (strange kind) h = tt
+  step_sound : (s : State) (e : Event) → SoundState s → SoundAfter (step R s e)
+  step_sound (within f fs) (begin type tagged size i) h = begin_sound f fs type tagged size i (place R f.type (suc (length fs)) type size) h
+  step_sound (within f fs) (end type tagged i) h = end_sound f fs type tagged i h
+  step_sound (within f fs) (pair x y i) h = pair_sound f fs x y i h
+  step_sound (within f fs) (strange kind) h = tt
 
   run_sound : (es : List Event) (s : State) → SoundState s → SoundAfter (run R es s)
   run_sound [] s h = h
-  run_sound (e ∷ es) s h = go (step R s e) (step-sound s e h) (λ t. run_sound es t)
+  run_sound (e ∷ es) s h = go (step R s e) (step_sound s e h) (λ t. run_sound es t)
     where
       go : (a : Answer) → SoundAfter a → ((t : State) → SoundState t → SoundAfter (run R es t)) → SoundAfter (and_then a (λ t. run R es t))
       go (taken t) h k = k t h
       go (refused n) h k = tt
 
-  pub reached-sound : (es : List Event) (s : State) → run R es start ≡ taken s → SoundState s
-  reached-sound es s e = rw e at (run_sound es start (record { done = omega arith; size = omega arith }, tt))
+  pub reached_sound : (es : List Event) (s : State) → run R es start ≡ taken s → SoundState s
+  reached_sound es s e = rw e at (run_sound es start (record { done = omega arith; size = omega arith }, tt))

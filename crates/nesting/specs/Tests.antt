@@ -34,8 +34,8 @@ numbered-number MultiLineString = refl
 numbered-number MultiPolygon = refl
 numbered-number Collection = refl
 
-pub number-true : (t u : GeometryType) → eqb (number t) (number u) ≡ true → t ≡ u
-number-true t u e = sym (numbered-number t) ∙ ap numbered (eqb-true (number t) (number u) e) ∙ numbered-number u
+pub number_true : (t u : GeometryType) → eqb (number t) (number u) ≡ true → t ≡ u
+number_true t u e = sym (numbered-number t) ∙ ap numbered (eqb-true (number t) (number u) e) ∙ numbered-number u
 
 -- ---- sizes
 either : (p : Bool) (n : ℕ) → (p || leb 1 n) ≡ true → p ≡ false → 1 ≤ n
@@ -47,38 +47,38 @@ or-one true n h = refl
 or-one false n h = le-leb 1 n (h refl)
 
 module _ (R : Rules) where
-  enough-true : (t : GeometryType) (n : ℕ) → enough R t n ≡ true → Enough R t n
-  enough-true t n e = let u = both (R.mayBeEmpty t || leb 1 n) (ltb n limit) e in (either (R.mayBeEmpty t) n u.0, ltb-true n limit u.1)
+  enough_true : (t : GeometryType) (n : ℕ) → enough R t n ≡ true → Enough R t n
+  enough_true t n e = let u = both (R.may_be_empty t || leb 1 n) (ltb n limit) e in (either (R.may_be_empty t) n u.0, ltb-true n limit u.1)
 
-  true-enough : (t : GeometryType) (n : ℕ) → Enough R t n → enough R t n ≡ true
-  true-enough t n h = rw (or-one (R.mayBeEmpty t) n h.0, lt-ltb n limit h.1)
+  true_enough : (t : GeometryType) (n : ℕ) → Enough R t n → enough R t n ≡ true
+  true_enough t n h = rw (or-one (R.may_be_empty t) n h.0, lt-ltb n limit h.1)
 
-  pub allowed-true : (t : GeometryType) (n : ℕ) → allowed R t n ≡ true → MayHold R t n
-  allowed-true Point n e = eqb-true n 0 e
-  allowed-true LineString n e = enough-true LineString n e
-  allowed-true Polygon n e = enough-true Polygon n e
-  allowed-true MultiPoint n e = enough-true MultiPoint n e
-  allowed-true MultiLineString n e = enough-true MultiLineString n e
-  allowed-true MultiPolygon n e = enough-true MultiPolygon n e
-  allowed-true Collection n e = enough-true Collection n e
+  pub allowed_true : (t : GeometryType) (n : ℕ) → allowed R t n ≡ true → MayHold R t n
+  allowed_true Point n e = eqb-true n 0 e
+  allowed_true LineString n e = enough_true LineString n e
+  allowed_true Polygon n e = enough_true Polygon n e
+  allowed_true MultiPoint n e = enough_true MultiPoint n e
+  allowed_true MultiLineString n e = enough_true MultiLineString n e
+  allowed_true MultiPolygon n e = enough_true MultiPolygon n e
+  allowed_true Collection n e = enough_true Collection n e
 
-  pub true-allowed : (t : GeometryType) (n : ℕ) → MayHold R t n → allowed R t n ≡ true
-  true-allowed Point n h = eq-eqb n 0 h
-  true-allowed LineString n h = true-enough LineString n h
-  true-allowed Polygon n h = true-enough Polygon n h
-  true-allowed MultiPoint n h = true-enough MultiPoint n h
-  true-allowed MultiLineString n h = true-enough MultiLineString n h
-  true-allowed MultiPolygon n h = true-enough MultiPolygon n h
-  true-allowed Collection n h = true-enough Collection n h
+  pub true_allowed : (t : GeometryType) (n : ℕ) → MayHold R t n → allowed R t n ≡ true
+  true_allowed Point n h = eq-eqb n 0 h
+  true_allowed LineString n h = true_enough LineString n h
+  true_allowed Polygon n h = true_enough Polygon n h
+  true_allowed MultiPoint n h = true_enough MultiPoint n h
+  true_allowed MultiLineString n h = true_enough MultiLineString n h
+  true_allowed MultiPolygon n h = true_enough MultiPolygon n h
+  true_allowed Collection n h = true_enough Collection n h
 
   -- ---- levels
-  pub exceeds-false : (t : GeometryType) (level n : ℕ) → exceeds R t level n ≡ false → Clear R t level n
-  exceeds-false t level n e opened some = rw (opened, le-leb 1 n some) at e
+  pub exceeds_false : (t : GeometryType) (level n : ℕ) → exceeds R t level n ≡ false → Clear R t level n
+  exceeds_false t level n e opened some = rw (opened, le-leb 1 n some) at e
 
-  pub false-exceeds : (t : GeometryType) (level n : ℕ) → Clear R t level n → exceeds R t level n ≡ false
-  false-exceeds t level n clear = go (R.opens t) refl (leb 1 n) refl
+  pub false_exceeds : (t : GeometryType) (level n : ℕ) → Clear R t level n → exceeds R t level n ≡ false
+  false_exceeds t level n clear = go (R.opens t) refl (leb 1 n) refl
     where
-      go : (p : Bool) → R.opens t ≡ p → (q : Bool) → leb 1 n ≡ q → (p && q && R.tooDeep (suc level)) ≡ false
+      go : (p : Bool) → R.opens t ≡ p → (q : Bool) → leb 1 n ≡ q → (p && q && R.too_deep (suc level)) ≡ false
       go false a q b = refl
       go true a false b = refl
       go true a true b = clear a (leb-true 1 n b)

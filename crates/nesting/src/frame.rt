@@ -2,9 +2,9 @@
 ghost use Rattle.std.specs.Prelude.{◌≡◌, ℕ, ◌<◌};
 ghost use Rattle.nesting.specs.Events.{GeometryType};
 ghost use Rattle.nesting.specs.Rules.{limit64};
-ghost use Rattle.nesting.specs.Machine.{Frame as Open, frame, outside, number, count, allowed, oneMore, endFits, pairFits};
-ghost use Rattle.nesting.specs.Levels.{opensWhere};
-ghost use Rattle.nesting.specs.Taking.{Is, ample, standing, tagFits, begins};
+ghost use Rattle.nesting.specs.Machine.{Frame as Open, frame, outside, number, count, allowed, one_more, end_fits, pair_fits};
+ghost use Rattle.nesting.specs.Levels.{opens_where};
+ghost use Rattle.nesting.specs.Taking.{Is, ample, standing, tag_fits, begins};
 
 use kinds::geometry_type;
 
@@ -29,7 +29,7 @@ pub struct Rules {
 
 // Whether the members of a type lie one level deeper.
 pub fn opens(kind: u8, rules: Rules) -> bool
-    ensures { (type : GeometryType) → kind ≡ number type → result ≡ opensWhere rules.deeper type }
+    ensures { (type : GeometryType) → kind ≡ number type → result ≡ opens_where rules.deeper type }
 {
     (kind == geometry_type::MULTI_POLYGON)
         | (kind == geometry_type::GEOMETRY_COLLECTION)
@@ -53,7 +53,7 @@ fn may_hold(kind: u8, size: u32, rules: Rules) -> bool
 
 // Whether a geometry of a type, with this tag, may stand inside an open one of type `outer`. In a collection lines and polygons are tagged.
 fn stands(outer: u8, kind: u8, tagged: bool) -> bool
-    ensures { (around type : GeometryType) → outer ≡ number around → kind ≡ number type → result ≡ tagFits (standing around type) tagged }
+    ensures { (around type : GeometryType) → outer ≡ number around → kind ≡ number type → result ≡ tag_fits (standing around type) tagged }
 {
     let line = kind == geometry_type::LINE_STRING;
     let polygon = kind == geometry_type::POLYGON;
@@ -103,7 +103,7 @@ impl Frame {
 
     // One more thing is closed. A frame that is full stays as it is, so that no count can wrap.
     pub fn one_more(self) -> Frame
-        ensures { (g : Open) → Is self g → g.done < g.size → Is result (oneMore g) }
+        ensures { (g : Open) → Is self g → g.done < g.size → Is result (one_more g) }
     {
         if self.size <= self.done {
             return self;
@@ -119,7 +119,7 @@ impl Frame {
 
     // Whether a pair of this index is the next thing.
     pub fn takes_pair(self, idx: u32) -> bool
-        ensures { (g : Open) → Is self g → (x y : ℕ) → x < limit64 → y < limit64 → result ≡ pairFits g x y idx }
+        ensures { (g : Open) → Is self g → (x y : ℕ) → x < limit64 → y < limit64 → result ≡ pair_fits g x y idx }
     {
         let kind = self.kind;
         ((kind == geometry_type::POINT)
@@ -142,7 +142,7 @@ impl Frame {
 
     // Whether it is full, and this is its end.
     pub fn takes_end(self, kind: u8, tagged: bool, idx: u32) -> bool
-        ensures { (g : Open) → Is self g → (type : GeometryType) → kind ≡ number type → result ≡ endFits g type tagged idx }
+        ensures { (g : Open) → Is self g → (type : GeometryType) → kind ≡ number type → result ≡ end_fits g type tagged idx }
     {
         (kind == self.kind)
             & ((tagged & self.tagged) | (!tagged & !self.tagged))

@@ -1,13 +1,13 @@
 // A record's own lists, lent from the pools to the walk that reads them.
 ghost use Rattle.std.specs.Prelude.{◌≡◌, ◌+◌, ◌≤◌, length};
 ghost use Rattle.laws.specs.Script.{out, run};
-ghost use Rattle.kinds.specs.Geometry.{start_of, countOf};
-ghost use Rattle.store.specs.Lists.{poolsOf, list_of, lists_of};
+ghost use Rattle.kinds.specs.Geometry.{start_of, count_of};
+ghost use Rattle.store.specs.Lists.{pools_of, list_of, lists_of};
 ghost use Rattle.log.specs.Log.{events};
-ghost use Rattle.coords.specs.Coords.{coordsOf};
-ghost use Rattle.lines.specs.Lines.{orNone};
-ghost use Rattle.coords.specs.Seen.{coordsIn};
-ghost use Rattle.own_lists.specs.Own.{own_s, Typed, InPools, isThere, seenOf, wordsOf};
+ghost use Rattle.coords.specs.Coords.{coords_of};
+ghost use Rattle.lines.specs.Lines.{or_none};
+ghost use Rattle.coords.specs.Seen.{coords_in};
+ghost use Rattle.own_lists.specs.Own.{own_s, Typed, InPools, is_there, seen_of, words_of};
 
 use coords::{Frame, Seen, between, read_window};
 use kinds::answer::Answer;
@@ -36,7 +36,7 @@ struct Bounds {
 }
 
 fn bounds_of(s: Span) -> Bounds
-    ensures { (result.start ≡ start_of s) × (result.end ≡ start_of s + countOf s) }
+    ensures { (result.start ≡ start_of s) × (result.end ≡ start_of s + count_of s) }
 {
     match s {
         Span::Absent => Bounds { start: 0, end: 0 },
@@ -48,8 +48,8 @@ fn bounds_of(s: Span) -> Bounds
 }
 
 fn words(pool: &[u64], s: Span) -> &[u64]
-    requires { start_of s + countOf s ≤ length pool.now }
-    ensures { result.now ≡ wordsOf pool.now s }
+    requires { start_of s + count_of s ≤ length pool.now }
+    ensures { result.now ≡ words_of pool.now s }
 {
     let b = bounds_of(s);
     let start = b.start;
@@ -58,8 +58,8 @@ fn words(pool: &[u64], s: Span) -> &[u64]
 }
 
 fn end_words(pool: &[u32], s: Span) -> &[u32]
-    requires { start_of s + countOf s ≤ length pool.now }
-    ensures { result.now ≡ wordsOf pool.now s }
+    requires { start_of s + count_of s ≤ length pool.now }
+    ensures { result.now ≡ words_of pool.now s }
 {
     let b = bounds_of(s);
     let start = b.start;
@@ -68,7 +68,7 @@ fn end_words(pool: &[u32], s: Span) -> &[u32]
 }
 
 fn is_there(s: Span) -> bool
-    ensures { result ≡ isThere s }
+    ensures { result ≡ is_there s }
 {
     match s {
         Span::Absent => false,
@@ -77,7 +77,7 @@ fn is_there(s: Span) -> bool
 }
 
 fn seen_of(flags: Flags, g: Geometry) -> Seen
-    ensures { result ≡ seenOf flags g }
+    ensures { result ≡ seen_of flags g }
 {
     let xy = g.xy;
     let z = g.z;
@@ -109,7 +109,7 @@ fn read_lists(
     idx: u32,
 ) -> Answer
     requires { (length xy.now ≤ 131072) × (length ends.now ≤ 65536) × Typed own }
-    ensures { let C = coordsIn seen xy.now z.now m.now t.now tm.now in
+    ensures { let C = coords_in seen xy.now z.now m.now t.now tm.now in
         run (events feature) (own_s own C ends.now idx) log.old count ≡ out result.number result.count log.new }
 {
     match own {
@@ -160,9 +160,9 @@ pub fn read_own(
     own: Own,
     idx: u32,
 ) -> Answer
-    requires { InPools (poolsOf xy.now ends.now z.now m.now t.now tm.now) g × Typed own }
-    ensures { let P = poolsOf xy.now ends.now z.now m.now t.now tm.now in
-        run (events feature) (own_s own (coordsOf flags (lists_of P g)) (orNone (list_of ends.now g.ends)) idx)
+    requires { InPools (pools_of xy.now ends.now z.now m.now t.now tm.now) g × Typed own }
+    ensures { let P = pools_of xy.now ends.now z.now m.now t.now tm.now in
+        run (events feature) (own_s own (coords_of flags (lists_of P g)) (or_none (list_of ends.now g.ends)) idx)
         log.old count ≡ out result.number result.count log.new }
 {
     let s = g.xy;

@@ -5,10 +5,10 @@ use Rattle.kinds.specs.declared.geometry.Geometry.{Geometry}
 use Rattle.kinds.specs.declared.geometry.Span.{Span}
 use Rattle.kinds.specs.declared.geometry.Span.TheVariants.{Absent, Stretch}
 use Rattle.asking.specs.declared.ask.Added.{Added}
-use Rattle.asking.specs.Ask.{addsTo}
+use Rattle.asking.specs.Ask.{adds_to}
 use Rattle.pending.specs.declared.words.Words.{Words}
 use Rattle.pending.specs.declared.words.Pending.{Pending}
-use Rattle.pending.specs.Words.{words, words_in, pendingOf}
+use Rattle.pending.specs.Words.{words, words_in, pending_of}
 
 -- how many words an event adds to each pool, where it adds any
 abbrev pub at_once : Lane → ℕ
@@ -20,18 +20,18 @@ at_once tL = 1
 at_once tmL = 1
 
 abbrev pub more : Added → Lane → ℕ
-more a n = cond (addsTo a n) (at_once n) 0
+more a n = cond (adds_to a n) (at_once n) 0
 
 -- ---- a finished part (SPEC 6.14): its xy list always, its ends where there are two or more, other lists where they have a word
 abbrev pub grown : Words → ℕ → Words
 grown p n = words p.start (p.count + n)
 
-unfoldable pub grownAll : Pending → Added → Pending
-grownAll p a = pendingOf (λ n. grown (words_in p n) (more a n))
+unfoldable pub grown_all : Pending → Added → Pending
+grown_all p a = pending_of (λ n. grown (words_in p n) (more a n))
 
 -- after a pair and its values, which leave the ends as they are
-abbrev pub grownValues : Pending → Added → Pending
-grownValues p a =
+abbrev pub grown_values : Pending → Added → Pending
+grown_values p a =
     record {
       xy = grown p.xy (cond a.xy 2 0);
       ends = p.ends;
@@ -60,15 +60,15 @@ shown p most = cond (leb p.count most) Absent (listed p)
 abbrev pub past : Words → ℕ → Words
 past p most = words (p.start + cond (leb p.count most) 0 p.count) 0
 
-unfoldable pub pastAll : Pending → Pending
-pastAll p = pendingOf (λ n. past (words_in p n) (omitted n))
+unfoldable pub past_all : Pending → Pending
+past_all p = pending_of (λ n. past (words_in p n) (omitted n))
 
 unfoldable pub part_of : ℕ → Pending → Geometry
 part_of kind p = record { kind = kind; xy = listed p.xy; ends = shown p.ends 1; z = shown p.z 0; m = shown p.m 0; t = shown p.t 0; tm = shown p.tm 0; parts = Absent }
 
 -- a root over parts: its type, and where they stand (SPEC 6.21)
-unfoldable pub rootOver : ℕ → ℕ → Geometry
-rootOver kind parts = record { kind = kind; xy = Absent; ends = Absent; z = Absent; m = Absent; t = Absent; tm = Absent; parts = Stretch 1 parts }
+unfoldable pub root_over : ℕ → ℕ → Geometry
+root_over kind parts = record { kind = kind; xy = Absent; ends = Absent; z = Absent; m = Absent; t = Absent; tm = Absent; parts = Stretch 1 parts }
 
 -- the pending words, moved to the front
 abbrev pub fronted : Words → Words

@@ -15,8 +15,8 @@ words_in p mL = p.m
 words_in p tL = p.t
 words_in p tmL = p.tm
 
-abbrev pub pendingOf : (Lane → Words) → Pending
-pendingOf f = record { xy = f xyL; ends = f endsL; z = f zL; m = f mL; t = f tL; tm = f tmL }
+abbrev pub pending_of : (Lane → Words) → Pending
+pending_of f = record { xy = f xyL; ends = f endsL; z = f zL; m = f mL; t = f tL; tm = f tmL }
 
 -- a pool is used up to its last pending word
 abbrev pub used : Words → ℕ

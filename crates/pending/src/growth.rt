@@ -1,8 +1,8 @@
 // The pending words of each pool: as they grow, as a part takes them, as they go to the front.
 ghost use Rattle.std.specs.Prelude.{◌≡◌, cond, ◌+◌, ◌/◌, ◌≤◌, leb};
-ghost use Rattle.pending.specs.Words.{used, words_in, pendingOf};
-ghost use Rattle.asking.specs.Ask.{noWords};
-ghost use Rattle.pending.specs.Growth.{grown, grownAll, grownValues, past, pastAll, fronted};
+ghost use Rattle.pending.specs.Words.{used, words_in, pending_of};
+ghost use Rattle.asking.specs.Ask.{no_words};
+ghost use Rattle.pending.specs.Growth.{grown, grown_all, grown_values, past, past_all, fronted};
 ghost use Rattle.pending.specs.Room.{Fits, ValuesFit};
 
 use crate::words::{Pending, Words};
@@ -43,7 +43,7 @@ fn grown(p: Words, on: bool, n: u32) -> Words
 
 pub fn grown_all(p: Pending, a: Added) -> Pending
     requires { Fits p a }
-    ensures { result ≡ grownAll p a }
+    ensures { result ≡ grown_all p a }
 {
     let xy = grown(p.xy, a.xy, Words::PAIR);
     let ends = grown(p.ends, a.ends, Words::ONE);
@@ -64,7 +64,7 @@ pub fn grown_all(p: Pending, a: Added) -> Pending
 // A coordinate leaves the ends as they are.
 pub fn grown_values(p: Pending, a: Added) -> Pending
     requires { ValuesFit p a }
-    ensures { result ≡ grownValues p a }
+    ensures { result ≡ grown_values p a }
 {
     let xy = grown(p.xy, a.xy, Words::PAIR);
     let ends = p.ends;
@@ -102,8 +102,8 @@ fn past(p: Words, omitted: u32) -> Words
 
 // A single end is left out, and its room is used again.
 pub fn past_all(p: Pending) -> Pending
-    requires { Fits p noWords }
-    ensures { result ≡ pastAll p }
+    requires { Fits p no_words }
+    ensures { result ≡ past_all p }
 {
     let xy = past(p.xy, Words::OMITTED);
     let ends = past(p.ends, Words::OMITTED_ENDS);
@@ -131,7 +131,7 @@ fn fronted(p: Words) -> Words
 }
 
 pub fn fronted_all(p: Pending) -> Pending
-    ensures { result ≡ pendingOf (λ n. fronted (words_in p n)) }
+    ensures { result ≡ pending_of (λ n. fronted (words_in p n)) }
 {
     let xy = fronted(p.xy);
     let ends = fronted(p.ends);

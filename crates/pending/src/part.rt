@@ -1,6 +1,6 @@
 // The geometry records that the writer puts down.
 ghost use Rattle.std.specs.Prelude.{◌≡◌};
-ghost use Rattle.pending.specs.Growth.{listed, shown, part_of, rootOver};
+ghost use Rattle.pending.specs.Growth.{listed, shown, part_of, root_over};
 
 use crate::words::{Pending, Words};
 use kinds::geometry::{Geometry, Span};
@@ -48,7 +48,7 @@ pub fn part_of(kind: u8, p: Pending) -> Geometry
 }
 
 pub fn root_over(kind: u8, count: u32) -> Geometry
-    ensures { result ≡ rootOver kind count }
+    ensures { result ≡ root_over kind count }
 {
     let absent = Span::Absent;
     let parts = Span::Stretch { start: 1, count };

@@ -1,7 +1,7 @@
 // Room: the lesser of what is lent and what is usable.
 ghost use Rattle.std.specs.Prelude.{◌≡◌, cond, ◌+◌, ◌≤◌};
 ghost use Rattle.pending.specs.Words.{used};
-ghost use Rattle.pending.specs.Room.{roomIn, hasRoom};
+ghost use Rattle.pending.specs.Room.{room_in, has_room};
 
 use crate::growth::{count_if, used};
 use crate::words::{Pending, Words};
@@ -10,21 +10,21 @@ use kinds::geometry::Lent;
 use kinds::usable;
 
 pub fn room_in(n: usize, count: usize, most: usize) -> bool
-    ensures { result ≡ roomIn n count most }
+    ensures { result ≡ room_in n count most }
 {
     (n <= count) & (n <= most)
 }
 
 pub fn lane_room(p: Words, on: bool, n: u32, count: usize, most: usize) -> bool
     requires { n ≤ 2 }
-    ensures { result ≡ roomIn (used p + cond on n 0) count most }
+    ensures { result ≡ room_in (used p + cond on n 0) count most }
 {
     room_in(used(p) + (count_if(on, n) as usize), count, most)
 }
 
 // Room for all that is pending, for the words that are added and for a number of records.
 pub fn has_room(p: Pending, a: Added, needed: usize, records: usize, pools: Lent) -> bool
-    ensures { result ≡ hasRoom p a needed records pools }
+    ensures { result ≡ has_room p a needed records pools }
 {
     let lanes = lane_room(p.xy, a.xy, Words::PAIR, pools.xy, usable::XY_WORDS)
         & lane_room(p.ends, a.ends, Words::ONE, pools.ends, usable::POOL_WORDS)

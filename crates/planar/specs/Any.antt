@@ -1,7 +1,7 @@
 -- A geometry of any depth, and a collection of such.
 use Rattle.std.specs.Prelude.{◌≡◌, refl, List, [], ◌∷◌, map, ℕ, zero, suc, max, ◌≤◌}
 use Rattle.std.proofs.Common.{sym, ap, ◌∙◌, arith}
-use Rattle.planar.specs.Geometry.{Simple, multiPoint, simple, collection, Geometry}
+use Rattle.planar.specs.Geometry.{Simple, multi_point, simple, collection, Geometry}
 
 pub record Any : Type 0 where
   pub n : ℕ
@@ -15,7 +15,7 @@ any n g = record { n = n; geometry = g }
 abbrev pub raise : (m n : ℕ) → Geometry m → Geometry n
 raise zero zero s = s
 raise zero (suc n) s = simple s
-raise (suc m) zero g = multiPoint []
+raise (suc m) zero g = multi_point []
 raise (suc m) (suc n) (simple s) = simple s
 raise (suc m) (suc n) (collection gs) = collection (map (raise m n) gs)
 
@@ -47,15 +47,15 @@ module _ {ℓ} {T : Type ℓ} (F : (n : ℕ) → Geometry n → T) (together : L
       ∙ ap together (map-through (raise m n) (F n) (F m) (raise-same m n (omega arith)) gs)
       ∙ sym (S.members m gs)
 
-  members-same : (n : ℕ) (xs : List Any) → deepest xs ≤ n → map (F n) (map (λ a. raise a.n n a.geometry) xs) ≡ map (λ a. F a.n a.geometry) xs
-  members-same n [] h = refl
-  members-same n (a ∷ xs) h =
+  members_same : (n : ℕ) (xs : List Any) → deepest xs ≤ n → map (F n) (map (λ a. raise a.n n a.geometry) xs) ≡ map (λ a. F a.n a.geometry) xs
+  members_same n [] h = refl
+  members_same n (a ∷ xs) h =
       let first = raise-same a.n n (omega arith) a.geometry in
-      let others = members-same n xs (omega arith) in
+      let others = members_same n xs (omega arith) in
       λ i. first i ∷ others i
 
   -- whatever goes by shape alone takes `collect xs` for the collection of xs
   pub collect-is : (xs : List Any) → F (collect xs).n (collect xs).geometry ≡ together (map (λ a. F a.n a.geometry) xs)
   collect-is xs =
       S.members (deepest xs) (map (λ a. raise a.n (deepest xs) a.geometry) xs)
-      ∙ ap together (members-same (deepest xs) xs (omega arith))
+      ∙ ap together (members_same (deepest xs) xs (omega arith))

@@ -1,6 +1,6 @@
 -- What a record and a file can hold: counts that a u32 holds, and x and y as the bit patterns of doubles, which a u64 holds.
 use Rattle.std.specs.Prelude.{List, [], ◌∷◌, ℕ, zero, suc, ◌<◌, length}
-use Rattle.planar.specs.Geometry.{Coord, Line, Rings, Simple, point, lineString, polygon, multiPoint, multiLineString, multiPolygon, simple, collection, Geometry}
+use Rattle.planar.specs.Geometry.{Coord, Line, Rings, Simple, point, line_string, polygon, multi_point, multi_line_string, multi_polygon, simple, collection, Geometry}
 
 -- something said of each member of a list
 abbrev pub Each {ℓ} : {A : Type ℓ} → (A → Type 0) → List A → Type 0
@@ -22,11 +22,11 @@ FitsRings = Row FitsLine
 
 abbrev pub FitsSimple : Simple → Type 0
 FitsSimple (point c) = FitsCoord c
-FitsSimple (lineString l) = FitsLine l
+FitsSimple (line_string l) = FitsLine l
 FitsSimple (polygon rs) = FitsRings rs
-FitsSimple (multiPoint cs) = Row FitsCoord cs
-FitsSimple (multiLineString ls) = Row FitsLine ls
-FitsSimple (multiPolygon ps) = Row FitsRings ps
+FitsSimple (multi_point cs) = Row FitsCoord cs
+FitsSimple (multi_line_string ls) = Row FitsLine ls
+FitsSimple (multi_polygon ps) = Row FitsRings ps
 
 abbrev pub Fits : (n : ℕ) → Geometry n → Type 0
 Fits zero s = FitsSimple s

@@ -14,11 +14,11 @@ Rings = List Line
 
 pub data Simple : Type 0 where
   point : Coord → Simple
-  lineString : Line → Simple
+  line_string : Line → Simple
   polygon : Rings → Simple
-  multiPoint : List Coord → Simple
-  multiLineString : List Line → Simple
-  multiPolygon : List Rings → Simple
+  multi_point : List Coord → Simple
+  multi_line_string : List Line → Simple
+  multi_polygon : List Rings → Simple
 
 pub data Shape (Part : Type 0) : Type 0 where
   simple : Simple → Shape Part

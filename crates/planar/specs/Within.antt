@@ -5,34 +5,34 @@ use Rattle.kinds.specs.declared.event.Event.{Event}
 use Rattle.kinds.specs.declared.flags.Flags.{Flags}
 use Rattle.geometries.specs.Geometry as Whole
 use Rattle.geometries.specs.Events as Told
-use Rattle.planar.specs.Geometry.{Coord, Line, Rings, Simple, point, lineString, polygon, multiPoint, multiLineString, multiPolygon, simple, collection, Geometry}
+use Rattle.planar.specs.Geometry.{Coord, Line, Rings, Simple, point, line_string, polygon, multi_point, multi_line_string, multi_polygon, simple, collection, Geometry}
 
-abbrev pub coordIn : Coord → Whole.Coord
-coordIn c = record { x = c.x; y = c.y; z = none; m = none; t = none; tm = none }
+abbrev pub coord_in : Coord → Whole.Coord
+coord_in c = record { x = c.x; y = c.y; z = none; m = none; t = none; tm = none }
 
-abbrev pub lineIn : Line → Whole.Line
-lineIn l = map coordIn l
+abbrev pub line_in : Line → Whole.Line
+line_in l = map coord_in l
 
-abbrev pub ringsIn : Rings → Whole.Rings
-ringsIn rs = map lineIn rs
+abbrev pub rings_in : Rings → Whole.Rings
+rings_in rs = map line_in rs
 
-abbrev pub simpleIn : Simple → Whole.Simple
-simpleIn (point c) = Whole.point (coordIn c)
-simpleIn (lineString l) = Whole.lineString (lineIn l)
-simpleIn (polygon rs) = Whole.polygon (ringsIn rs)
-simpleIn (multiPoint cs) = Whole.multiPoint (map coordIn cs)
-simpleIn (multiLineString ls) = Whole.multiLineString (map lineIn ls)
-simpleIn (multiPolygon ps) = Whole.multiPolygon (map ringsIn ps)
+abbrev pub simple_in : Simple → Whole.Simple
+simple_in (point c) = Whole.point (coord_in c)
+simple_in (line_string l) = Whole.line_string (line_in l)
+simple_in (polygon rs) = Whole.polygon (rings_in rs)
+simple_in (multi_point cs) = Whole.multi_point (map coord_in cs)
+simple_in (multi_line_string ls) = Whole.multi_line_string (map line_in ls)
+simple_in (multi_polygon ps) = Whole.multi_polygon (map rings_in ps)
 
-abbrev pub geometryIn : (n : ℕ) → Geometry n → Whole.Geometry n
-geometryIn zero s = simpleIn s
-geometryIn (suc n) (simple s) = Whole.simple (simpleIn s)
-geometryIn (suc n) (collection gs) = Whole.collection (map (geometryIn n) gs)
+abbrev pub geometry_in : (n : ℕ) → Geometry n → Whole.Geometry n
+geometry_in zero s = simple_in s
+geometry_in (suc n) (simple s) = Whole.simple (simple_in s)
+geometry_in (suc n) (collection gs) = Whole.collection (map (geometry_in n) gs)
 
 -- no flag is set
 abbrev pub plain : Flags
 plain = record { z = false; m = false; t = false; tm = false }
 
 -- its events: without flags a pair is kind 64
-unfoldable pub planarEvents : (n : ℕ) → Geometry n → List Event
-planarEvents n g = Told.eventsOf plain n (geometryIn n g)
+unfoldable pub planar_events : (n : ℕ) → Geometry n → List Event
+planar_events n g = Told.eventsOf plain n (geometry_in n g)

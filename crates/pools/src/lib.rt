@@ -1,9 +1,9 @@
 // What an accepted call changes: one function for each lent slice.
 ghost use Rattle.std.specs.Prelude.{◌≡◌, true, cond, [], ◌∷◌, ◌+◌, ◌≤◌, ◌<◌, length};
 ghost use Rattle.std.proofs.lemmas.List.Edits.{sets};
-ghost use Rattle.store.specs.Records.{recordsLent, putRecord};
+ghost use Rattle.store.specs.Records.{records_lent, put_record};
 ghost use Rattle.pending.specs.Words.{used};
-ghost use Rattle.writing.specs.Calls.{tableAfter, rootOf, moved};
+ghost use Rattle.writing.specs.Calls.{table_after, root_of, moved};
 ghost use Rattle.pending.specs.Room.{Fits};
 
 use asking::ask::Ask;
@@ -15,9 +15,9 @@ use writing::state::State;
 
 // Part i is record i + 1.
 pub fn finish_part(table: &mut [u8], s: State, a: Ask)
-    requires room { a.part ≡ true → s.parts + 2 ≤ recordsLent table.old }
+    requires room { a.part ≡ true → s.parts + 2 ≤ records_lent table.old }
     requires fits { Fits s.pending a.added }
-    ensures { table.new ≡ tableAfter s a table.old }
+    ensures { table.new ≡ table_after s a table.old }
 {
     if a.part {
         let added = a.added;
@@ -27,8 +27,8 @@ pub fn finish_part(table: &mut [u8], s: State, a: Ask)
 }
 
 pub fn put_root(table: &mut [u8], s: State)
-    requires { 0 < recordsLent table.old }
-    ensures { table.new ≡ putRecord table.old 0 (rootOf s) }
+    requires { 0 < records_lent table.old }
+    ensures { table.new ≡ put_record table.old 0 (root_of s) }
 {
     store::put_record(table, 0, root_of(s));
 }

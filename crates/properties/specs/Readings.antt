@@ -8,15 +8,15 @@ use Rattle.std.proofs.Math.Nat.{pow-le-pow_right}
 use Rattle.std.proofs.Math.Dec.{eqb}
 use borrow.Author.Tests.{eqb-true, eqb-false, ne_eqb}
 use Rattle.laws.specs.Every.{never}
-use Rattle.laws.specs.Bytes.{word_at, Bytes, unle-lt, part_bytes}
+use Rattle.laws.specs.Bytes.{word_at, Bytes, unle_lt, part_bytes}
 use Rattle.laws.specs.Script.{Script, stop, say, out, run}
-use Rattle.laws.specs.Cut.{number_of, recordsOf, roomOf, said}
+use Rattle.laws.specs.Cut.{number_of, records_of, room_of, said}
 use Rattle.kinds.specs.declared.value.Value.{Value}
 use Rattle.log.specs.Values.{values}
 use Rattle.property_reader.specs.declared.item.Item.{Item}
 use Rattle.property_reader.specs.declared.item.Item.TheVariants.{End, Refused, NotUtf8, Skipped, Found}
-use Rattle.property_reader.specs.Reading.{item_at, onItem, onUpTo, onFrom, onBytes, endScript, endPlace, keepPlace, reading, badIn, says, stopped}
-use Rattle.property_reader.specs.ReadingLaws.{and-false, either, every-item}
+use Rattle.property_reader.specs.Reading.{item_at, on_item, on_up_to, on_from, on_bytes, end_script, end_place, keep_place, reading, bad_in, says, stopped}
+use Rattle.property_reader.specs.ReadingLaws.{and_false, either, every_item}
 
 -- the places that a reading comes to: the first, and the one behind a property that does not end it
 pub data Reached (bytes columns : List ℕ) (last : ℕ) : ℕ → Type 0 where
@@ -31,38 +31,38 @@ pub every-reading : (bytes : List ℕ) (hasColumns : Bool) (columns : List ℕ) 
     → ((at place : ℕ) → Reached (take 65536 bytes) columns last at → item_at (take 65536 bytes) columns at ≡ NotUtf8 place → P (stop 6) place)
     → ((at next : ℕ) (value : Value) (s : Script Value) (place : ℕ) → item_at (take 65536 bytes) columns at ≡ Found value next
     → (eqb value.column last ≡ true → s ≡ stop 0) → P s place → P (say value s) place)
-    → P (reading bytes hasColumns columns last) (badIn bytes hasColumns columns last)
-unfolding onBytes onFrom onUpTo onItem
-every-reading bytes hasColumns columns last P ends refused bad says = with-columns hasColumns
+    → P (reading bytes hasColumns columns last) (bad_in bytes hasColumns columns last)
+unfolding on_bytes on_from on_up_to on_item
+every-reading bytes hasColumns columns last P ends refused bad says = with_columns hasColumns
   where
     named : (t : Bool) (s : Script Value) → t ≡ true → cond t (stop 0) s ≡ stop 0
     named t s e = rw e
 
-    unless-named : (value : Value) (t : Bool) → eqb value.column last ≡ t → {s : Script Value} {place : ℕ} → ((value.column ≡ last → ⊥) → P s place) → P (cond t (stop 0) s) (cond t 0 place)
-    unless-named value true e later = ends
-    unless-named value false e later = later (eqb-false value.column last e)
+    unless_named : (value : Value) (t : Bool) → eqb value.column last ≡ t → {s : Script Value} {place : ℕ} → ((value.column ≡ last → ⊥) → P s place) → P (cond t (stop 0) s) (cond t 0 place)
+    unless_named value true e later = ends
+    unless_named value false e later = later (eqb-false value.column last e)
 
     on : (script : ℕ → Script Value) (place : ℕ → ℕ) → ((next : ℕ) → Reached (take 65536 bytes) columns last next → P (script next) (place next))
         → (at : ℕ) → Reached (take 65536 bytes) columns last at → (i : Item) → item_at (take 65536 bytes) columns at ≡ i
-        → P (onItem endScript say last script i) (onItem endPlace keepPlace last place i)
+        → P (on_item end_script say last script i) (on_item end_place keep_place last place i)
     on script place p at r End e = ends
     on script place p at r (Refused number) e = refused at number e
     on script place p at r (NotUtf8 there) e = bad at there r e
     on script place p at r (Skipped next) e = p next (skipped r e)
     on script place p at r (Found value next) e =
         let t : Bool = eqb value.column last in
-        says at next value (cond t (stop 0) (script next)) (cond t 0 (place next)) e (named t (script next)) (unless-named value t refl (λ other. p next (found r e other)))
+        says at next value (cond t (stop 0) (script next)) (cond t 0 (place next)) e (named t (script next)) (unless_named value t refl (λ other. p next (found r e other)))
 
     up_to : (most at : ℕ) → Reached (take 65536 bytes) columns last at
-        → P (onUpTo endScript say most (take 65536 bytes) columns last at) (onUpTo endPlace keepPlace most (take 65536 bytes) columns last at)
+        → P (on_up_to end_script say most (take 65536 bytes) columns last at) (on_up_to end_place keep_place most (take 65536 bytes) columns last at)
     up_to zero at r = ends
     up_to (suc most) at r =
-        on (onUpTo endScript say most (take 65536 bytes) columns last) (onUpTo endPlace keepPlace most (take 65536 bytes) columns last) (up_to most) at r
+        on (on_up_to end_script say most (take 65536 bytes) columns last) (on_up_to end_place keep_place most (take 65536 bytes) columns last) (up_to most) at r
         (item_at (take 65536 bytes) columns at) refl
 
-    with-columns : (t : Bool) → P (reading bytes t columns last) (badIn bytes t columns last)
-    with-columns true = up_to (length (take 65536 bytes) - 0) 0 first
-    with-columns false = ends
+    with_columns : (t : Bool) → P (reading bytes t columns last) (bad_in bytes t columns last)
+    with_columns true = up_to (length (take 65536 bytes) - 0) 0 first
+    with_columns false = ends
 
 -- a reading answers 0 or one of four refusals
 
@@ -79,7 +79,7 @@ RefusesAs (Found value next) = Unit
 refuses : (bytes columns : List ℕ) (at : ℕ) → RefusesAs (item_at bytes columns at)
 unfolding RefusesAs
 refuses bytes columns at =
-    every-item RefusesAs bytes columns at tt (Memᴰ.head refl) (Memᴰ.tail (Memᴰ.head refl)) (λ listed whole fails. tt) (λ next h l. tt) (λ kind len word next h l. tt)
+    every_item RefusesAs bytes columns at tt (Memᴰ.head refl) (Memᴰ.tail (Memᴰ.head refl)) (λ listed whole fails. tt) (λ next h l. tt) (λ kind len word next h l. tt)
 
 -- the last of some values has this column
 pub record EndsIn (column : ℕ) (l : List Value) : Type 0 where
@@ -96,17 +96,17 @@ module _ (bytes : List ℕ) (hasColumns : Bool) (columns : List ℕ) (last : ℕ
       (λ at number e. Memᴰ.tail (rw e at (refuses (take 65536 bytes) columns at))) (λ at place r e. Memᴰ.tail (Memᴰ.tail (Memᴰ.tail (Memᴰ.head refl))))
       (λ at next value s place e f h. h)
 
-  pub answers-as : (log after : List ℕ) (number count : ℕ) → run values (reading bytes hasColumns columns last) log 0 ≡ out number count after
+  pub answers_as : (log after : List ℕ) (number count : ℕ) → run values (reading bytes hasColumns columns last) log 0 ≡ out number count after
       → Memᴰ number (0 ∷ refusals)
-  answers-as log after number count h =
+  answers_as log after number count h =
       rw (said values h).number_is
-      (either (λ n. Memᴰ n (0 ∷ refusals)) (leb (length (recordsOf (reading bytes hasColumns columns last))) (roomOf values.wide log)) _ _ (λ e. ends_as)
+      (either (λ n. Memᴰ n (0 ∷ refusals)) (leb (length (records_of (reading bytes hasColumns columns last))) (room_of values.wide log)) _ _ (λ e. ends_as)
       (λ e. Memᴰ.tail (Memᴰ.tail (Memᴰ.tail (Memᴰ.tail (Memᴰ.head refl))))))
 
   -- no refusal comes after the named column's value
-  pub stops-done : says last (reading bytes hasColumns columns last) ≡ true → number_of (reading bytes hasColumns columns last) ≡ 0
+  pub stops_done : says last (reading bytes hasColumns columns last) ≡ true → number_of (reading bytes hasColumns columns last) ≡ 0
   unfolding number_of says
-  stops-done =
+  stops_done =
       every-reading bytes hasColumns columns last (λ s place. says last s ≡ true → number_of s ≡ 0) (λ e. refl) (λ at number e h. absurd (never h)) (λ at place r e h. absurd (never h))
       (λ at next value s place e f later. go (eqb value.column last) s f later)
     where
@@ -115,14 +115,14 @@ module _ (bytes : List ℕ) (hasColumns : Bool) (columns : List ℕ) (last : ℕ
       go false s f later h = later h
 
   -- no value comes after the named column's value
-  pub stops-last : says last (reading bytes hasColumns columns last) ≡ true → EndsIn last (recordsOf (reading bytes hasColumns columns last))
-  unfolding recordsOf says
-  stops-last =
-      every-reading bytes hasColumns columns last (λ s place. says last s ≡ true → EndsIn last (recordsOf s)) (λ h. absurd (never h)) (λ at number e h. absurd (never h)) (λ at place r e h. absurd (never h))
+  pub stops_last : says last (reading bytes hasColumns columns last) ≡ true → EndsIn last (records_of (reading bytes hasColumns columns last))
+  unfolding records_of says
+  stops_last =
+      every-reading bytes hasColumns columns last (λ s place. says last s ≡ true → EndsIn last (records_of s)) (λ h. absurd (never h)) (λ at number e h. absurd (never h)) (λ at place r e h. absurd (never h))
       (λ at next value s place e f later. go value (eqb value.column last) refl s f later)
     where
       go : (value : Value) (t : Bool) → eqb value.column last ≡ t → (s : Script Value) → (eqb value.column last ≡ true → s ≡ stop 0)
-          → (says last s ≡ true → EndsIn last (recordsOf s)) → (t || says last s) ≡ true → EndsIn last (value ∷ recordsOf s)
+          → (says last s ≡ true → EndsIn last (records_of s)) → (t || says last s) ≡ true → EndsIn last (value ∷ records_of s)
       go value true e s f later h = record { front = []; value = value; same = rw (f e); named = eqb-true value.column last e }
       go value false e s f later h =
           let r = later h in
@@ -142,24 +142,24 @@ ColumnIs column (NotUtf8 place) = Unit
 ColumnIs column (Skipped next) = Unit
 ColumnIs column (Found value next) = value.column ≡ column
 
-column-is : (bytes columns : List ℕ) (at : ℕ) → ColumnIs (word_at 2 bytes at) (item_at bytes columns at)
+column_is : (bytes columns : List ℕ) (at : ℕ) → ColumnIs (word_at 2 bytes at) (item_at bytes columns at)
 unfolding ColumnIs
-column-is bytes columns at = every-item (ColumnIs (word_at 2 bytes at)) bytes columns at tt tt tt (λ listed whole fails. tt) (λ next h l. tt) (λ kind len word next h l. refl)
+column_is bytes columns at = every_item (ColumnIs (word_at 2 bytes at)) bytes columns at tt tt tt (λ listed whole fails. tt) (λ next h l. tt) (λ kind len word next h l. refl)
 
-column-small : (bytes : List ℕ) (at : ℕ) → Bytes bytes → word_at 2 bytes at < 65536
-column-small bytes at b =
+column_small : (bytes : List ℕ) (at : ℕ) → Bytes bytes → word_at 2 bytes at < 65536
+column_small bytes at b =
     let part : List ℕ = take 2 (drop at bytes) in
     let short : length part ≤ 2 = omega (arith, length-take 2 (drop at bytes)) in
     let most : 256 ^ length part ≤ 256 ^ 2 = pow-le-pow_right (lit< tt) short in
-    omega (arith, unle-lt part (part_bytes 2 at bytes b))
+    omega (arith, unle_lt part (part_bytes 2 at bytes b))
 
-pub never-stops : (bytes : List ℕ) (hasColumns : Bool) (columns : List ℕ) (last number : ℕ) → Bytes bytes → 65536 ≤ last
+pub never_stops : (bytes : List ℕ) (hasColumns : Bool) (columns : List ℕ) (last number : ℕ) → Bytes bytes → 65536 ≤ last
     → stopped last (reading bytes hasColumns columns last) number ≡ false
 unfolding stopped says ColumnIs
-never-stops bytes hasColumns columns last number b h =
-    and-false (eqb number 0) _
+never_stops bytes hasColumns columns last number b h =
+    and_false (eqb number 0) _
     (every-reading bytes hasColumns columns last (λ s place. says last s ≡ false) refl (λ at number e. refl) (λ at place r e. refl)
     (λ at next value s place e f later.
-    let same : value.column ≡ word_at 2 (take 65536 bytes) at = rw e at (column-is (take 65536 bytes) columns at) in
-    let small = column-small (take 65536 bytes) at (part_bytes 65536 0 bytes b) in
+    let same : value.column ≡ word_at 2 (take 65536 bytes) at = rw e at (column_is (take 65536 bytes) columns at) in
+    let small = column_small (take 65536 bytes) at (part_bytes 65536 0 bytes b) in
     rw (ne_eqb value.column last (λ named. omega arith)) later))

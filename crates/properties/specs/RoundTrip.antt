@@ -11,14 +11,14 @@ use borrow.Author.Tests.{ne_eqb, le-ltb}
 use Rattle.laws.specs.Bytes.{le}
 use Rattle.laws.specs.Script.{Script, stop, say}
 use Rattle.kinds.specs.declared.value.Value.{Value}
-use Rattle.utf8.specs.Utf8.{isUtf8, firstBad, run, charLength, row_of, begins, has}
-use Rattle.property_value.specs.Column.{width_of, isText}
+use Rattle.utf8.specs.Utf8.{is_utf8, first_bad, run, char_length, row_of, begins, has}
+use Rattle.property_value.specs.Column.{width_of, is_text}
 use Rattle.property_writer.specs.declared.PropertyPut.{PropertyPut}
-use Rattle.property_writer.specs.Writing.{textBytes, laidDown, propertyBytes, refusalOf, put_of, bytesAfter}
-use Rattle.property_value.specs.Value.{malformed, textOk}
-use Rattle.property_writer.specs.WritingLaws.{value-text, Accepted, accepted, put-done, bytes-done, used-then}
-use Rattle.property_reader.specs.Reading.{propertiesFrom, reading}
-use Rattle.properties.specs.ReadBack.{part-here, Writable, valueBack, read_back}
+use Rattle.property_writer.specs.Writing.{text_bytes, laid_down, property_bytes, refusal_of, put_of, bytes_after}
+use Rattle.property_value.specs.Value.{malformed, text_ok}
+use Rattle.property_writer.specs.WritingLaws.{value_text, Accepted, accepted, put-done, bytes-done, used-then}
+use Rattle.property_reader.specs.Reading.{properties_from, reading}
+use Rattle.properties.specs.ReadBack.{part_here, Writable, value_back, read_back}
 use Rattle.property_reader.specs.ReadingLaws.{read-end, read_whole}
 
 -- what is handed to one write
@@ -29,23 +29,23 @@ pub record Property : Type 0 where
   pub text : List ℕ
 
 abbrev pub bytes_of : Property → List ℕ
-bytes_of p = propertyBytes p.column p.kind p.bits p.text
+bytes_of p = property_bytes p.column p.kind p.bits p.text
 
 -- ---- a row of writes, each into what the last left or into any buffer that agrees with it on what is used
 pub data Wrote : List ℕ → ℕ → List Property → List ℕ → ℕ → Type 0 where
   none : {buffer : List ℕ} {used : ℕ} → Wrote buffer used [] buffer used
   one : {buffer after : List ℕ} {used then : ℕ} {p : Property} {ps : List Property} (lends : List ℕ)
       → take used lends ≡ take used buffer
-      → refusalOf false used p.column p.kind p.bits p.text (length lends) ≡ 0
-      → Wrote (bytesAfter false used p.column p.kind p.bits p.text lends) (put_of false used p.column p.kind p.bits p.text lends).used ps after then
+      → refusal_of false used p.column p.kind p.bits p.text (length lends) ≡ 0
+      → Wrote (bytes_after false used p.column p.kind p.bits p.text lends) (put_of false used p.column p.kind p.bits p.text lends).used ps after then
       → Wrote buffer used (p ∷ ps) after then
 
 -- a write more
-pub one_more : {buffer after : List ℕ} {used then : ℕ} {ps : List Property} (p : Property) (lends : List ℕ) → Wrote buffer used ps after then
-    → take then lends ≡ take then after → refusalOf false then p.column p.kind p.bits p.text (length lends) ≡ 0
-    → Wrote buffer used (ps ++ p ∷ []) (bytesAfter false then p.column p.kind p.bits p.text lends) (put_of false then p.column p.kind p.bits p.text lends).used
-one_more p lends none same done = one lends same done none
-one_more p lends (one before agrees taken rest) same done = one before agrees taken (one_more p lends rest same done)
+pub one_more_lem : {buffer after : List ℕ} {used then : ℕ} {ps : List Property} (p : Property) (lends : List ℕ) → Wrote buffer used ps after then
+    → take then lends ≡ take then after → refusal_of false then p.column p.kind p.bits p.text (length lends) ≡ 0
+    → Wrote buffer used (ps ++ p ∷ []) (bytes_after false then p.column p.kind p.bits p.text lends) (put_of false then p.column p.kind p.bits p.text lends).used
+one_more_lem p lends none same done = one lends same done none
+one_more_lem p lends (one before agrees taken rest) same done = one before agrees taken (one_more_lem p lends rest same done)
 
 -- the column list gives each property's column its type
 pub data Typed (columns : List ℕ) : List Property → Type 0 where
@@ -53,9 +53,9 @@ pub data Typed (columns : List ℕ) : List Property → Type 0 where
   one : {p : Property} {ps : List Property} → p.column < length columns → get_or columns p.column 0 ≡ p.kind → Typed columns ps → Typed columns (p ∷ ps)
 
 -- the values to be read, the first property's bytes starting at a place
-abbrev pub valuesFrom : ℕ → List Property → List Value
-valuesFrom at [] = []
-valuesFrom at (p ∷ ps) = valueBack p.column p.kind p.bits p.text (at + 2) ∷ valuesFrom (at + length (bytes_of p)) ps
+abbrev pub values_from : ℕ → List Property → List Value
+values_from at [] = []
+values_from at (p ∷ ps) = value_back p.column p.kind p.bits p.text (at + 2) ∷ values_from (at + length (bytes_of p)) ps
 
 abbrev pub saying : List Value → Script Value
 saying [] = stop 0
@@ -79,9 +79,9 @@ writable columns p a listed typed =
     }
 
 -- ---- what one write leaves
-module _ (used : ℕ) (p : Property) (lends : List ℕ) (done : refusalOf false used p.column p.kind p.bits p.text (length lends) ≡ 0) where
+module _ (used : ℕ) (p : Property) (lends : List ℕ) (done : refusal_of false used p.column p.kind p.bits p.text (length lends) ≡ 0) where
   abbrev left : List ℕ
-  left = bytesAfter false used p.column p.kind p.bits p.text lends
+  left = bytes_after false used p.column p.kind p.bits p.text lends
 
   fits : Accepted false used p.column p.kind p.bits p.text (length lends)
   fits = accepted false used p.column p.kind p.bits p.text (length lends) done
@@ -117,73 +117,73 @@ used-bytes (one {buffer = buffer} {used = used} {p = p} {ps = ps} lends same don
 pub bytes-joined : {buffer after : List ℕ} {then : ℕ} {ps : List Property} → Wrote buffer 0 ps after then → take then after ≡ joined ps
 bytes-joined wrote = (used-bytes wrote (omega arith) (omega arith)).bytes
 
-joined-split : (before : List Property) (p : Property) (behind : List Property) → joined (before ++ p ∷ behind) ≡ joined before ++ (bytes_of p ++ joined behind)
-joined-split [] p behind = refl
-joined-split (q ∷ before) p behind = ap (λ (l : List ℕ). bytes_of q ++ l) (joined-split before p behind) ∙ sym (append_assoc (bytes_of q) (joined before) (bytes_of p ++ joined behind))
+joined_split : (before : List Property) (p : Property) (behind : List Property) → joined (before ++ p ∷ behind) ≡ joined before ++ (bytes_of p ++ joined behind)
+joined_split [] p behind = refl
+joined_split (q ∷ before) p behind = ap (λ (l : List ℕ). bytes_of q ++ l) (joined_split before p behind) ∙ sym (append_assoc (bytes_of q) (joined before) (bytes_of p ++ joined behind))
 
 -- the value of a property behind others, and the values on both sides of it
-abbrev pub valueAfter : List Property → Property → Value
-valueAfter before p = valueBack p.column p.kind p.bits p.text (length (joined before) + 2)
+abbrev pub value_after : List Property → Property → Value
+value_after before p = value_back p.column p.kind p.bits p.text (length (joined before) + 2)
 
-values-split : (at : ℕ) (before : List Property) (p : Property) (behind : List Property)
-    → valuesFrom at (before ++ p ∷ behind) ≡ valuesFrom at before ++ valuesFrom (at + length (joined before)) (p ∷ behind)
-values-split at [] p behind = ap (λ (n : ℕ). valuesFrom n (p ∷ behind)) (omega arith)
-values-split at (q ∷ before) p behind =
+values_split : (at : ℕ) (before : List Property) (p : Property) (behind : List Property)
+    → values_from at (before ++ p ∷ behind) ≡ values_from at before ++ values_from (at + length (joined before)) (p ∷ behind)
+values_split at [] p behind = ap (λ (n : ℕ). values_from n (p ∷ behind)) (omega arith)
+values_split at (q ∷ before) p behind =
     let place : at + length (bytes_of q) + length (joined before) ≡ at + length (bytes_of q ++ joined before) = omega (arith, length-append (bytes_of q) (joined before)) in
-    ap (λ (vs : List Value). valueBack q.column q.kind q.bits q.text (at + 2) ∷ vs)
-    (values-split (at + length (bytes_of q)) before p behind ∙ ap (λ (n : ℕ). valuesFrom (at + length (bytes_of q)) before ++ valuesFrom n (p ∷ behind)) place)
+    ap (λ (vs : List Value). value_back q.column q.kind q.bits q.text (at + 2) ∷ vs)
+    (values_split (at + length (bytes_of q)) before p behind ∙ ap (λ (n : ℕ). values_from (at + length (bytes_of q)) before ++ values_from n (p ∷ behind)) place)
 
-text-bytes : (before : List Property) (p : Property) (behind : List Property) → 11 ≤ p.kind → take (length p.text) (drop (length (joined before) + 6) (joined (before ++ p ∷ behind))) ≡ p.text
-unfolding propertyBytes textBytes
-text-bytes before p behind h =
+text_bytes_lem : (before : List Property) (p : Property) (behind : List Property) → 11 ≤ p.kind → take (length p.text) (drop (length (joined before) + 6) (joined (before ++ p ∷ behind))) ≡ p.text
+unfolding property_bytes text_bytes
+text_bytes_lem before p behind h =
     let head : List ℕ = le 2 p.column ++ le 4 (length p.text) in
-    let bytes : bytes_of p ≡ head ++ p.text = ap (λ (l : List ℕ). le 2 p.column ++ l) (value-text p.kind p.bits p.text h) in
+    let bytes : bytes_of p ≡ head ++ p.text = ap (λ (l : List ℕ). le 2 p.column ++ l) (value_text p.kind p.bits p.text h) in
     let all : joined (before ++ p ∷ behind) ≡ (joined before ++ head) ++ (p.text ++ joined behind)
-    = joined-split before p behind ∙ ap (λ (l : List ℕ). joined before ++ (l ++ joined behind)) bytes ∙ ap (λ (l : List ℕ). joined before ++ l) (append_assoc head p.text (joined behind)) ∙ sym (append_assoc (joined before) head (p.text ++ joined behind)) in
+    = joined_split before p behind ∙ ap (λ (l : List ℕ). joined before ++ (l ++ joined behind)) bytes ∙ ap (λ (l : List ℕ). joined before ++ l) (append_assoc head p.text (joined behind)) ∙ sym (append_assoc (joined before) head (p.text ++ joined behind)) in
     let long : length (joined before ++ head) ≡ length (joined before) + 6 = length-append (joined before) head in
-    rw (all, ← long) (part-here (joined before ++ head) p.text (joined behind) refl)
+    rw (all, ← long) (part_here (joined before ++ head) p.text (joined behind) refl)
 
 -- a text stands where its value says
-pub text-there : (before : List Property) (p : Property) (behind : List Property) → 11 ≤ p.kind
-    → (let v = valueAfter before p in (valuesFrom 0 (before ++ p ∷ behind) ≡ valuesFrom 0 before ++ v ∷ valuesFrom (length (joined before) + length (bytes_of p)) behind) × (take v.len (drop v.word (joined (before ++ p ∷ behind))) ≡ p.text))
-unfolding valueBack
-text-there before p behind h =
+pub text_there : (before : List Property) (p : Property) (behind : List Property) → 11 ≤ p.kind
+    → (let v = value_after before p in (values_from 0 (before ++ p ∷ behind) ≡ values_from 0 before ++ v ∷ values_from (length (joined before) + length (bytes_of p)) behind) × (take v.len (drop v.word (joined (before ++ p ∷ behind))) ≡ p.text))
+unfolding value_back
+text_there before p behind h =
     let place : length (joined before) + 2 + 4 ≡ length (joined before) + 6 = omega arith in
     let from_zero : 0 + length (joined before) ≡ length (joined before) = omega arith in (
-      values-split 0 before p behind ∙ ap (λ (n : ℕ). valuesFrom 0 before ++ valuesFrom n (p ∷ behind)) from_zero,
-      rw (le-ltb p.kind 11 h, place) (text-bytes before p behind h),
+      values_split 0 before p behind ∙ ap (λ (n : ℕ). values_from 0 before ++ values_from n (p ∷ behind)) from_zero,
+      rw (le-ltb p.kind 11 h, place) (text_bytes_lem before p behind h),
     )
 
 -- ---- read where they stand
 module _ (columns : List ℕ) (last : ℕ) (none_named : 65536 ≤ last) where
   next : (p : Property) (ps : List Property) (before : List ℕ) → Writable columns p.column p.kind p.bits p.text
-      → propertiesFrom (before ++ (bytes_of p ++ joined ps)) columns last (length before + length (bytes_of p)) ≡ saying (valuesFrom (length before + length (bytes_of p)) ps)
-      → propertiesFrom (before ++ (bytes_of p ++ joined ps)) columns last (length before) ≡ saying (valuesFrom (length before) (p ∷ ps))
-  unfolding propertyBytes
+      → properties_from (before ++ (bytes_of p ++ joined ps)) columns last (length before + length (bytes_of p)) ≡ saying (values_from (length before + length (bytes_of p)) ps)
+      → properties_from (before ++ (bytes_of p ++ joined ps)) columns last (length before) ≡ saying (values_from (length before) (p ∷ ps))
+  unfolding property_bytes
   next p ps before w later =
-      let value : Value = valueBack p.column p.kind p.bits p.text (length before + 2) in
+      let value : Value = value_back p.column p.kind p.bits p.text (length before + 2) in
       let other : eqb p.column last ≡ false = ne_eqb p.column last (λ e. omega (arith, w.index)) in
-      let n : ℕ = length (laidDown p.kind p.bits p.text) in
+      let n : ℕ = length (laid_down p.kind p.bits p.text) in
       let place : length before + 2 + n ≡ length before + suc (suc n) = omega arith in
       read_back columns p.column p.kind p.bits p.text w last before (joined ps) ∙ rw (other, place) (ap (say value) later)
 
   read-from : {buffer after : List ℕ} {used then : ℕ} {ps : List Property} → Wrote buffer used ps after then → Typed columns ps
-      → (before : List ℕ) → propertiesFrom (before ++ joined ps) columns last (length before) ≡ saying (valuesFrom (length before) ps)
+      → (before : List ℕ) → properties_from (before ++ joined ps) columns last (length before) ≡ saying (values_from (length before) ps)
   read-from none none before = rw (append-nil before) (read-end before columns last)
   read-from (one {used = used} lends same done rest) (one {p = p} {ps = ps} listed typed others) before =
       let a = fits used p lends done in
-      let here : propertiesFrom (before ++ (bytes_of p ++ joined ps)) columns last (length before + length (bytes_of p)) ≡ saying (valuesFrom (length before + length (bytes_of p)) ps)
+      let here : properties_from (before ++ (bytes_of p ++ joined ps)) columns last (length before + length (bytes_of p)) ≡ saying (values_from (length before + length (bytes_of p)) ps)
       = rw (append_assoc before (bytes_of p) (joined ps), length-append before (bytes_of p)) at (read-from rest others (before ++ bytes_of p)) in
       next p ps before (writable columns p a listed typed) here
 
 -- the values are said in order, and reading is done
 pub round_trip : {buffer after : List ℕ} {then : ℕ} {ps : List Property} → Wrote buffer 0 ps after then → (columns : List ℕ) → Typed columns ps
-    → (last : ℕ) → 65536 ≤ last → reading (take then after) true columns last ≡ saying (valuesFrom 0 ps)
+    → (last : ℕ) → 65536 ≤ last → reading (take then after) true columns last ≡ saying (values_from 0 ps)
 round_trip {buffer} {after} {then} {ps} wrote columns typed last h =
     let used = used-bytes wrote (omega arith) (omega arith) in
     let short : length (take then after) ≤ 65536 = omega (arith, length-take then after, used.usable) in
     read_whole (take then after) columns last short
-    ∙ ap (λ (bytes : List ℕ). propertiesFrom bytes columns last 0) used.bytes
+    ∙ ap (λ (bytes : List ℕ). properties_from bytes columns last 0) used.bytes
     ∙ read-from columns last h wrote typed []
 
 -- ---- such rows there are: an Int and a String, each into a buffer with other bytes behind what is used
@@ -199,9 +199,9 @@ fresh = replicate 20 0xaa
 abbrev lends_again : List ℕ
 lends_again = 0 ∷ 0 ∷ 7 ∷ 0 ∷ 0 ∷ 0 ∷ replicate 10 0xbb
 
-a-row : Wrote fresh 0 (int ∷ name ∷ []) (bytesAfter false 6 1 11 0 (0x61 ∷ []) lends_again) 13
-unfolding refusalOf malformed textOk put_of bytesAfter propertyBytes laidDown textBytes width_of isText isUtf8 firstBad run charLength row_of begins has
-a-row = one fresh refl refl (one lends_again refl refl none)
+a_row : Wrote fresh 0 (int ∷ name ∷ []) (bytes_after false 6 1 11 0 (0x61 ∷ []) lends_again) 13
+unfolding refusal_of malformed text_ok put_of bytes_after property_bytes laid_down text_bytes width_of is_text is_utf8 first_bad run char_length row_of begins has
+a_row = one fresh refl refl (one lends_again refl refl none)
 
-a-row-typed : Typed (5 ∷ 11 ∷ []) (int ∷ name ∷ [])
-a-row-typed = one (lit< tt) refl (one (lit< tt) refl none)
+a_row_typed : Typed (5 ∷ 11 ∷ []) (int ∷ name ∷ [])
+a_row_typed = one (lit< tt) refl (one (lit< tt) refl none)

@@ -3,9 +3,9 @@ use Rattle.std.specs.Prelude.{Bool, false, cond, not, ◌&&◌, ◌||◌, List, 
 use Rattle.laws.specs.Bytes.{word_at}
 use Rattle.laws.specs.Script.{Script, stop, say}
 use Rattle.kinds.specs.declared.value.Value.{Value}
-use Rattle.utf8.specs.Utf8.{firstBad}
+use Rattle.utf8.specs.Utf8.{first_bad}
 use Rattle.property_value.specs.Column.{width_of}
-use Rattle.property_value.specs.Value.{textOk, word_of}
+use Rattle.property_value.specs.Value.{text_ok, word_of}
 use Rattle.property_reader.specs.declared.item.Item.{Item}
 use Rattle.property_reader.specs.declared.item.Item.TheVariants.{End, Refused, NotUtf8, Skipped, Found}
 
@@ -25,12 +25,12 @@ unfoldable pub bytes_at : List ℕ → ℕ → ℕ → ℕ → ℕ → Item
 bytes_at bytes column kind start len =
     let text = take len (drop start bytes) in
     cond (ltb (length bytes - start) len) (Refused 14)
-    (cond (not (textOk kind text)) (NotUtf8 (firstBad text))
+    (cond (not (text_ok kind text)) (NotUtf8 (first_bad text))
     (Found (value_of column kind len start) (start + len)))
 
 -- a length in four bytes comes first (SPEC 9.9)
-unfoldable pub textAt : List ℕ → ℕ → ℕ → ℕ → Item
-textAt bytes column kind at =
+unfoldable pub text_at : List ℕ → ℕ → ℕ → ℕ → Item
+text_at bytes column kind at =
     cond (ltb (length bytes - at) 4) (Refused 14)
     (bytes_at bytes column kind (at + 4) (word_at 4 bytes at))
 
@@ -39,7 +39,7 @@ unfoldable pub value_at : List ℕ → ℕ → ℕ → ℕ → Item
 value_at bytes column kind at =
     cond (ltb 14 kind) (Skipped at)
     (cond (ltb kind 11) (number_at bytes column kind at)
-    (textAt bytes column kind at))
+    (text_at bytes column kind at))
 
 -- done where fewer than two bytes are left (SPEC 9.6); then the refusals in order: 2, 14, 6
 unfoldable pub item_at : List ℕ → List ℕ → ℕ → Item
@@ -52,50 +52,50 @@ item_at bytes columns at =
 
 module _ {R : Type 0} (ended : ℕ → ℕ → R) (said : Value → R → R) where
   -- the reading ends after a value of the named column (SPEC 9.11)
-  unfoldable pub onItem : ℕ → (ℕ → R) → Item → R
-  onItem last later End = ended 0 0
-  onItem last later (Refused number) = ended number 0
-  onItem last later (NotUtf8 place) = ended 6 place
-  onItem last later (Skipped next) = later next
-  onItem last later (Found value next) = said value (cond (eqb value.column last) (ended 0 0) (later next))
+  unfoldable pub on_item : ℕ → (ℕ → R) → Item → R
+  on_item last later End = ended 0 0
+  on_item last later (Refused number) = ended number 0
+  on_item last later (NotUtf8 place) = ended 6 place
+  on_item last later (Skipped next) = later next
+  on_item last later (Found value next) = said value (cond (eqb value.column last) (ended 0 0) (later next))
 
   -- from a place on, by at most `most` items
-  unfoldable pub onUpTo : ℕ → List ℕ → List ℕ → ℕ → ℕ → R
-  onUpTo zero bytes columns last at = ended 0 0
-  onUpTo (suc most) bytes columns last at = onItem last (onUpTo most bytes columns last) (item_at bytes columns at)
+  unfoldable pub on_up_to : ℕ → List ℕ → List ℕ → ℕ → ℕ → R
+  on_up_to zero bytes columns last at = ended 0 0
+  on_up_to (suc most) bytes columns last at = on_item last (on_up_to most bytes columns last) (item_at bytes columns at)
 
   -- by all items from a place on: there are no more than bytes
-  unfoldable pub onFrom : List ℕ → List ℕ → ℕ → ℕ → R
-  onFrom bytes columns last at = onUpTo (length bytes - at) bytes columns last at
+  unfoldable pub on_from : List ℕ → List ℕ → ℕ → ℕ → R
+  on_from bytes columns last at = on_up_to (length bytes - at) bytes columns last at
 
   -- with no column list, nothing (SPEC 9.6); 65,536 property bytes are usable (SPEC 4.2)
-  unfoldable pub onBytes : List ℕ → Bool → List ℕ → ℕ → R
-  onBytes bytes hasColumns columns last = cond hasColumns (onFrom (take 65536 bytes) columns last 0) (ended 0 0)
+  unfoldable pub on_bytes : List ℕ → Bool → List ℕ → ℕ → R
+  on_bytes bytes hasColumns columns last = cond hasColumns (on_from (take 65536 bytes) columns last 0) (ended 0 0)
 
 -- ---- what it has to say
 
-abbrev pub endScript : ℕ → ℕ → Script Value
-endScript number place = stop number
+abbrev pub end_script : ℕ → ℕ → Script Value
+end_script number place = stop number
 
-abbrev pub propertiesFrom : List ℕ → List ℕ → ℕ → ℕ → Script Value
-propertiesFrom = onFrom endScript say
+abbrev pub properties_from : List ℕ → List ℕ → ℕ → ℕ → Script Value
+properties_from = on_from end_script say
 
 abbrev pub reading : List ℕ → Bool → List ℕ → ℕ → Script Value
-reading = onBytes endScript say
+reading = on_bytes end_script say
 
 -- ---- the place of the bad byte for which it ends, and 0 where it ends otherwise (SPEC 9.13). It is `placed` by the answer: a log that is full before gives 9.
 
-abbrev pub endPlace : ℕ → ℕ → ℕ
-endPlace number place = place
+abbrev pub end_place : ℕ → ℕ → ℕ
+end_place number place = place
 
-abbrev pub keepPlace : Value → ℕ → ℕ
-keepPlace value place = place
+abbrev pub keep_place : Value → ℕ → ℕ
+keep_place value place = place
 
-abbrev pub badFrom : List ℕ → List ℕ → ℕ → ℕ → ℕ
-badFrom = onFrom endPlace keepPlace
+abbrev pub bad_from : List ℕ → List ℕ → ℕ → ℕ → ℕ
+bad_from = on_from end_place keep_place
 
-abbrev pub badIn : List ℕ → Bool → List ℕ → ℕ → ℕ
-badIn = onBytes endPlace keepPlace
+abbrev pub bad_in : List ℕ → Bool → List ℕ → ℕ → ℕ
+bad_in = on_bytes end_place keep_place
 
 -- ---- whether it stopped
 

@@ -1,8 +1,8 @@
 // What stands at a place of property bytes.
 ghost use Rattle.std.specs.Prelude.{◌≡◌, true, ◌+◌, ◌≤◌, length};
 ghost use Rattle.laws.specs.Bytes.{word_at};
-ghost use Rattle.property_value.specs.Column.{isWidth};
-ghost use Rattle.property_reader.specs.Reading.{number_at, textAt, bytes_at, value_at, item_at};
+ghost use Rattle.property_value.specs.Column.{is_width};
+ghost use Rattle.property_reader.specs.Reading.{number_at, text_at, bytes_at, value_at, item_at};
 
 use kinds::value::Value;
 use kinds::{column_type, refusal};
@@ -69,7 +69,7 @@ fn number_at(bytes: &[u8], column: u16, kind: u8, at: usize) -> Item
 
 // One routine for each width, and no loop over the bytes.
 fn bits_at(bytes: &[u8], at: usize, len: usize) -> u64
-    requires { (isWidth len ≡ true) × (at + len ≤ length bytes.now) }
+    requires { (is_width len ≡ true) × (at + len ≤ length bytes.now) }
     ensures { result ≡ word_at len bytes.now at }
 {
     match len {
@@ -89,7 +89,7 @@ fn wide(b: u8) -> u64
 // A value with a length first.
 fn text_at(bytes: &[u8], column: u16, kind: u8, at: usize) -> Item
     requires { at ≤ length bytes.now }
-    ensures { result ≡ textAt bytes.now column kind at }
+    ensures { result ≡ text_at bytes.now column kind at }
 {
     if bytes.len() - at < 4 {
         return Item::Refused(refusal::VALUE_CUT);

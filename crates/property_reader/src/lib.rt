@@ -5,7 +5,7 @@ ghost use Rattle.std.specs.Prelude.{◌≡◌, false};
 ghost use Rattle.laws.specs.Script.{out, run};
 ghost use Rattle.log.specs.Values.{values};
 ghost use Rattle.property_value.specs.Value.{placed};
-ghost use Rattle.property_reader.specs.Reading.{propertiesFrom, badFrom, reading, badIn, stopped};
+ghost use Rattle.property_reader.specs.Reading.{properties_from, bad_from, reading, bad_in, stopped};
 
 use item::{Item, item_at};
 use kinds::refusal;
@@ -33,7 +33,7 @@ pub fn read_properties(
     ensures log_value { let s = reading bytes.now has_columns columns.now stop in
         run values s log.old 0 ≡ out result.number result.count log.new }
     ensures stopped_value { result.stopped ≡ stopped stop (reading bytes.now has_columns columns.now stop) result.number }
-    ensures place_value { result.place ≡ placed result.number (badIn bytes.now has_columns columns.now stop) }
+    ensures place_value { result.place ≡ placed result.number (bad_in bytes.now has_columns columns.now stop) }
 {
     if !has_columns {
         return ended(refusal::DONE, 0);
@@ -43,10 +43,10 @@ pub fn read_properties(
 }
 
 fn read_all(bytes: &[u8], columns: &[u8], stop: u32, log: &mut [u8]) -> PropertiesRead
-    ensures log_value { let s = propertiesFrom bytes.now columns.now stop 0 in
+    ensures log_value { let s = properties_from bytes.now columns.now stop 0 in
         run values s log.old 0 ≡ out result.number result.count log.new }
-    ensures stopped_value { result.stopped ≡ stopped stop (propertiesFrom bytes.now columns.now stop 0) result.number }
-    ensures place_value { result.place ≡ placed result.number (badFrom bytes.now columns.now stop 0) }
+    ensures stopped_value { result.stopped ≡ stopped stop (properties_from bytes.now columns.now stop 0) result.number }
+    ensures place_value { result.place ≡ placed result.number (bad_from bytes.now columns.now stop 0) }
 {
     let mut at = 0;
     let mut count = 0;

@@ -10,9 +10,9 @@ width_of kind =
     (cond (leb kind 8 || eqb kind 10) 8 0)))
 
 -- the widths that a number may have
-unfoldable pub isWidth : ℕ → Bool
-isWidth width = eqb width 1 || eqb width 2 || eqb width 4 || eqb width 8
+unfoldable pub is_width : ℕ → Bool
+is_width width = eqb width 1 || eqb width 2 || eqb width 4 || eqb width 8
 
 -- text types are checked UTF-8; Binary is not
-unfoldable pub isText : ℕ → Bool
-isText kind = leb 11 kind && leb kind 13
+unfoldable pub is_text : ℕ → Bool
+is_text kind = leb 11 kind && leb kind 13

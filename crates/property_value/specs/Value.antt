@@ -2,21 +2,21 @@
 use Rattle.std.specs.Prelude.{◌≡◌, Bool, true, false, cond, ◌&&◌, ◌||◌, List, ℕ, ◌^◌, leb, ltb, eqb}
 use Rattle.utf8.specs.declared.Bad.{Bad}
 use Rattle.utf8.specs.declared.Bad.TheVariants.{Nowhere, At}
-use Rattle.utf8.specs.Utf8.{firstBad, isUtf8}
-use Rattle.property_value.specs.Column.{width_of, isText}
+use Rattle.utf8.specs.Utf8.{first_bad, is_utf8}
+use Rattle.property_value.specs.Column.{width_of, is_text}
 
 -- SPEC 9.3: no such type, a Bool that is neither 0 nor 1, or a number that its width does not hold
 unfoldable pub malformed : ℕ → ℕ → Bool
 malformed kind bits = ltb 14 kind || (eqb kind 2 && ltb 1 bits) || (leb kind 10 && leb (256 ^ width_of kind) bits)
 
 -- String, Json and DateTime are held to be UTF-8, Binary is not (SPEC 9.4, 9.9)
-unfoldable pub textOk : ℕ → List ℕ → Bool
-textOk kind text = cond (isText kind) (isUtf8 text) true
+unfoldable pub text_ok : ℕ → List ℕ → Bool
+text_ok kind text = cond (is_text kind) (is_utf8 text) true
 
 -- what the check of a text finds: its type allows it, or it does not, and the first bad byte stands at a place
 abbrev pub Checked : ℕ → List ℕ → Bad → Type 0
-Checked kind text Nowhere = textOk kind text ≡ true
-Checked kind text (At place) = (textOk kind text ≡ false) × (place ≡ firstBad text)
+Checked kind text Nowhere = text_ok kind text ≡ true
+Checked kind text (At place) = (text_ok kind text ≡ false) × (place ≡ first_bad text)
 
 -- the place that goes with an answer (SPEC 9.13): that of the text's first bad byte with 6, and 0 with any other
 unfoldable pub placed : ℕ → ℕ → ℕ

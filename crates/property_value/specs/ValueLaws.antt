@@ -5,32 +5,32 @@ use Rattle.std.proofs.lemmas.Bool.{eqb-false, lt-leb}
 use Rattle.laws.specs.Every.{never, neither, fails}
 use Rattle.utf8.specs.declared.Bad.{Bad}
 use Rattle.utf8.specs.declared.Bad.TheVariants.{Nowhere, At}
-use Rattle.utf8.specs.Utf8.{firstBad, isUtf8, BadIs}
-use Rattle.utf8.specs.Meaning.{text-utf8, bad-first, at-bad}
-use Rattle.property_value.specs.Column.{width_of, isText}
-use Rattle.property_value.specs.Value.{malformed, textOk, Checked, placed, word_of}
+use Rattle.utf8.specs.Utf8.{first_bad, is_utf8, BadIs}
+use Rattle.utf8.specs.Meaning.{text_utf8, bad_first, at_bad}
+use Rattle.property_value.specs.Column.{width_of, is_text}
+use Rattle.property_value.specs.Value.{malformed, text_ok, Checked, placed, word_of}
 
 -- ---- a number's bits
 
-pub bool-above : (bits : ℕ) → malformed 2 bits ≡ ltb 1 bits
+pub bool_above : (bits : ℕ) → malformed 2 bits ≡ ltb 1 bits
 unfolding malformed width_of
-bool-above bits = go (ltb 1 bits) refl
+bool_above bits = go (ltb 1 bits) refl
   where
     go : (t : Bool) → ltb 1 bits ≡ t → (t || leb 256 bits) ≡ t
     go true e = refl
     go false e = lt-leb 256 bits (omega (arith, ltb-false 1 bits e))
 
-pub beyond-width : (kind width bits : ℕ) → width ≡ width_of kind → kind < 11 → (kind ≡ 2 → ⊥) → malformed kind bits ≡ leb (256 ^ width) bits
+pub beyond_width : (kind width bits : ℕ) → width ≡ width_of kind → kind < 11 → (kind ≡ 2 → ⊥) → malformed kind bits ≡ leb (256 ^ width) bits
 unfolding malformed
-beyond-width kind width bits e h n =
+beyond_width kind width bits e h n =
     let l : kind ≤ 14 = omega arith in
     let m : kind ≤ 10 = omega arith in
     rw e (simp (le-ltb 14 kind l, ne_eqb kind 2 n, le-leb kind 10 m))
 
-pub well-formed : (kind bits : ℕ) → malformed kind bits ≡ false →
+pub well_formed_lem : (kind bits : ℕ) → malformed kind bits ≡ false →
     (kind ≤ 14) × (kind ≡ 2 → bits ≤ 1) × (kind ≤ 10 → bits < 256 ^ width_of kind)
 unfolding malformed
-well-formed kind bits e =
+well_formed_lem kind bits e =
     let number = neither _ _ e in
     let truth = neither _ _ number.0 in (
       ltb-false 14 kind truth.0,
@@ -50,27 +50,27 @@ word_back kind bits h = go (eqb kind 2) refl (eqb bits 0) refl
 
 -- ---- a text
 
--- one that is refused is of a type that is held to be UTF-8, and its first bad byte is where firstBad says
-pub text-fails : (kind : ℕ) (text : List ℕ) → textOk kind text ≡ false → (isText kind ≡ true) × BadIs text (At (firstBad text))
-unfolding textOk
-text-fails kind text e = go (isText kind) refl e
+-- one that is refused is of a type that is held to be UTF-8, and its first bad byte is where first_bad says
+pub text_fails : (kind : ℕ) (text : List ℕ) → text_ok kind text ≡ false → (is_text kind ≡ true) × BadIs text (At (first_bad text))
+unfolding text_ok
+text_fails kind text e = go (is_text kind) refl e
   where
-    go : (t : Bool) → isText kind ≡ t → cond t (isUtf8 text) true ≡ false → (isText kind ≡ true) × BadIs text (At (firstBad text))
-    go true k e = (k, bad-first text e)
+    go : (t : Bool) → is_text kind ≡ t → cond t (is_utf8 text) true ≡ false → (is_text kind ≡ true) × BadIs text (At (first_bad text))
+    go true k e = (k, bad_first text e)
     go false k e = absurd (never (sym e))
 
 -- what is found of the bytes, by a type that is held to be UTF-8
-pub checked : (kind : ℕ) (text : List ℕ) (b : Bad) → isText kind ≡ true → BadIs text b → Checked kind text b
-unfolding textOk
-checked kind text Nowhere k t = rw k (text-utf8 text t)
-checked kind text (At place) k t = rw k (at-bad text place t)
+pub checked : (kind : ℕ) (text : List ℕ) (b : Bad) → is_text kind ≡ true → BadIs text b → Checked kind text b
+unfolding text_ok
+checked kind text Nowhere k t = rw k (text_utf8 text t)
+checked kind text (At place) k t = rw k (at_bad text place t)
 
 -- there is one such finding
-pub checked-once : (kind : ℕ) (text : List ℕ) (a b : Bad) → Checked kind text a → Checked kind text b → a ≡ b
-checked-once kind text Nowhere Nowhere h k = refl
-checked-once kind text Nowhere (At place) h k = absurd (never (sym k.0 ∙ h))
-checked-once kind text (At place) Nowhere h k = absurd (never (sym h.0 ∙ k))
-checked-once kind text (At place) (At other) h k = ap At (h.1 ∙ sym k.1)
+pub checked_once : (kind : ℕ) (text : List ℕ) (a b : Bad) → Checked kind text a → Checked kind text b → a ≡ b
+checked_once kind text Nowhere Nowhere h k = refl
+checked_once kind text Nowhere (At place) h k = absurd (never (sym k.0 ∙ h))
+checked_once kind text (At place) Nowhere h k = absurd (never (sym h.0 ∙ k))
+checked_once kind text (At place) (At other) h k = ap At (h.1 ∙ sym k.1)
 
 -- ---- a place
 

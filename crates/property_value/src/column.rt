@@ -1,6 +1,6 @@
 // Column types: how wide a number is, and which have a length first.
 ghost use Rattle.std.specs.Prelude.{◌≡◌};
-ghost use Rattle.property_value.specs.Column.{width_of, isText};
+ghost use Rattle.property_value.specs.Column.{width_of, is_text};
 
 use kinds::column_type;
 
@@ -21,7 +21,7 @@ pub fn width(kind: u8) -> usize
 
 // Whether the bytes of a type's values are to be UTF-8.
 pub fn is_text(kind: u8) -> bool
-    ensures { result ≡ isText kind }
+    ensures { result ≡ is_text kind }
 {
     (column_type::STRING <= kind) & (kind <= column_type::DATE_TIME)
 }

@@ -2,8 +2,8 @@
 ghost use Rattle.std.specs.Prelude.{◌≡◌, true, ◌+◌, ◌^◌, ◌≤◌, ◌<◌, length};
 ghost use Rattle.std.proofs.lemmas.List.Edits.{sets};
 ghost use Rattle.laws.specs.Bytes.{le};
-ghost use Rattle.property_value.specs.Column.{isWidth};
-ghost use Rattle.property_writer.specs.Writing.{textBytes, laidDown, propertyBytes, Exact};
+ghost use Rattle.property_value.specs.Column.{is_width};
+ghost use Rattle.property_writer.specs.Writing.{text_bytes, laid_down, property_bytes, Exact};
 
 use kinds::column_type;
 use numbers::{put_u16, put_u32, put_u64};
@@ -11,9 +11,9 @@ use property_value::width;
 
 // What lies past the index is lent to the value writer.
 pub fn lay_property(at: usize, column: u16, kind: u8, bits: u64, text: &[u8], buffer: &mut [u8])
-    requires text_in_bounds { at + length (propertyBytes column kind bits text.now) ≤ length buffer.old }
+    requires text_in_bounds { at + length (property_bytes column kind bits text.now) ≤ length buffer.old }
     requires exact { Exact kind bits text.now }
-    ensures { buffer.new ≡ sets buffer.old at (propertyBytes column kind bits text.now) }
+    ensures { buffer.new ≡ sets buffer.old at (property_bytes column kind bits text.now) }
 {
     put_u16(buffer, at, column);
     let after_index = at + 2;
@@ -21,9 +21,9 @@ pub fn lay_property(at: usize, column: u16, kind: u8, bits: u64, text: &[u8], bu
 }
 
 fn put_value(kind: u8, bits: u64, text: &[u8], out: &mut [u8])
-    requires text_in_bounds { length (laidDown kind bits text.now) ≤ length out.old }
+    requires text_in_bounds { length (laid_down kind bits text.now) ≤ length out.old }
     requires exact { Exact kind bits text.now }
-    ensures { out.new ≡ sets out.old 0 (laidDown kind bits text.now) }
+    ensures { out.new ≡ sets out.old 0 (laid_down kind bits text.now) }
 {
     if kind >= column_type::STRING {
         put_text(text, out);
@@ -34,7 +34,7 @@ fn put_value(kind: u8, bits: u64, text: &[u8], out: &mut [u8])
 
 // Each width has a routine of its own.
 fn put_number(width: usize, bits: u64, out: &mut [u8])
-    requires { (isWidth width ≡ true) × (bits < 256 ^ width) × (width ≤ length out.old) }
+    requires { (is_width width ≡ true) × (bits < 256 ^ width) × (width ≤ length out.old) }
     ensures { out.new ≡ sets out.old 0 (le width bits) }
 {
     match width {
@@ -47,7 +47,7 @@ fn put_number(width: usize, bits: u64, out: &mut [u8])
 
 fn put_text(text: &[u8], out: &mut [u8])
     requires { (4 + length text.now ≤ length out.old) × (length text.now < 256 ^ 4) }
-    ensures { out.new ≡ sets out.old 0 (textBytes text.now) }
+    ensures { out.new ≡ sets out.old 0 (text_bytes text.now) }
 {
     put_u32(out, 0, text.len() as u32);
     put_bytes(out, 4, text);

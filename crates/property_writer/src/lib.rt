@@ -2,9 +2,9 @@
 mod lay;
 
 ghost use Rattle.std.specs.Prelude.{◌≡◌};
-ghost use Rattle.utf8.specs.Utf8.{firstBad};
+ghost use Rattle.utf8.specs.Utf8.{first_bad};
 ghost use Rattle.property_value.specs.Value.{Checked, placed};
-ghost use Rattle.property_writer.specs.Writing.{refusalOf, put_of, bytesAfter, propertyLength};
+ghost use Rattle.property_writer.specs.Writing.{refusal_of, put_of, bytes_after, property_length};
 
 use kinds::{column_type, refusal};
 use lay::lay_property;
@@ -30,7 +30,7 @@ pub fn put_property(
     buffer: &mut [u8],
 ) -> PropertyPut
     ensures answer { result ≡ put_of waiting used column kind bits text.now buffer.old }
-    ensures bytes { buffer.new ≡ bytesAfter waiting used column kind bits text.now buffer.old }
+    ensures bytes { buffer.new ≡ bytes_after waiting used column kind bits text.now buffer.old }
 {
     let judged = refusal_of(waiting, used, column, kind, bits, text, buffer.len());
     if judged.number != refusal::DONE {
@@ -55,8 +55,8 @@ fn refusal_of(
     text: &[u8],
     lent: usize,
 ) -> PropertyPut
-    ensures { let number = refusalOf waiting used column kind bits text.now lent in
-        result ≡ record { number = number; used = used; place = placed number (firstBad text.now) } }
+    ensures { let number = refusal_of waiting used column kind bits text.now lent in
+        result ≡ record { number = number; used = used; place = placed number (first_bad text.now) } }
 {
     if waiting {
         return unplaced(refusal::NOT_ITS_TURN, used);
@@ -102,7 +102,7 @@ fn bad_if_text(kind: u8, text: &[u8]) -> Bad
 }
 
 fn property_length(kind: u8, text: &[u8]) -> usize
-    ensures { result ≡ propertyLength kind text.now }
+    ensures { result ≡ property_length kind text.now }
 {
     if kind >= column_type::STRING {
         return 2 + 4 + text.len();

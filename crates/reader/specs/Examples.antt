@@ -4,15 +4,15 @@ use Rattle.std.proofs.Math.Option.{Option, none, some}
 use Rattle.laws.specs.Script.{Script, stop, say, ◌⨟◌}
 use Rattle.laws.specs.Framed.{framed}
 use Rattle.kinds.specs.declared.event.Event.{Event}
-use Rattle.kinds.specs.Event.{beginE, endE, xyE}
+use Rattle.kinds.specs.Event.{begin_e, end_e, xy_e}
 use Rattle.kinds.specs.declared.flags.Flags.{Flags}
 use Rattle.store.specs.Lists.{Rec}
-use Rattle.coords.specs.Coords.{pairS, coordsS, betweenS}
-use Rattle.lines.specs.Lines.{stretchS, linesS, ringsS, stretchesS, multiLineS, pointS}
-use Rattle.reader.specs.Reading.{spanS, partsS, kindS, geometryS, rootS, readS}
+use Rattle.coords.specs.Coords.{pair_s, coords_s, between_s}
+use Rattle.lines.specs.Lines.{stretch_s, lines_s, rings_s, stretches_s, multi_line_s, point_s}
+use Rattle.reader.specs.Reading.{span_s, parts_s, kind_s, geometry_s, root_s, read_s}
 
-abbrev pub noFlags : Flags
-noFlags = record { z = false; m = false; t = false; tm = false }
+abbrev pub no_flags : Flags
+no_flags = record { z = false; m = false; t = false; tm = false }
 
 -- a record alone
 abbrev only : Rec → ℕ → Option Rec
@@ -20,21 +20,21 @@ only r zero = some r
 only r (suc n) = none
 
 -- B10: a Point without a pair says its begin, then 7, whatever the flags.
-abbrev pub noPair : Rec
-noPair = record { kind = 1; xy = some []; ends = none; z = none; m = none; t = none; tm = none; parts = none }
+abbrev pub no_pair : Rec
+no_pair = record { kind = 1; xy = some []; ends = none; z = none; m = none; t = none; tm = none; parts = none }
 
-pub b10 : (F : Flags) → readS F (only noPair) 1 ≡ say (beginE 1 false 0 0) (stop 7)
-unfolding readS rootS geometryS kindS pointS framed betweenS coordsS ◌⨟◌
+pub b10 : (F : Flags) → read_s F (only no_pair) 1 ≡ say (begin_e 1 false 0 0) (stop 7)
+unfolding read_s root_s geometry_s kind_s point_s framed between_s coords_s ◌⨟◌
 b10 F = refl
 
 -- B11: a MultiLineString of 6 words with ends 3, 2 says six events, then 8.
 abbrev pub falling : Rec
 falling = record { kind = 5; xy = some (10 ∷ 11 ∷ 12 ∷ 13 ∷ 14 ∷ 15 ∷ []); ends = some (3 ∷ 2 ∷ []); z = none; m = none; t = none; tm = none; parts = none }
 
-pub b11 : readS noFlags (only falling) 5
-    ≡ say (beginE 5 false 2 0)
-    (say (beginE 2 false 3 0) (say (xyE 10 11 0) (say (xyE 12 13 1) (say (xyE 14 15 2) (say (endE 2 false 0) (stop 8))))))
-unfolding readS rootS geometryS kindS multiLineS stretchesS ringsS linesS stretchS framed betweenS coordsS pairS ◌⨟◌
+pub b11 : read_s no_flags (only falling) 5
+    ≡ say (begin_e 5 false 2 0)
+    (say (begin_e 2 false 3 0) (say (xy_e 10 11 0) (say (xy_e 12 13 1) (say (xy_e 14 15 2) (say (end_e 2 false 0) (stop 8))))))
+unfolding read_s root_s geometry_s kind_s multi_line_s stretches_s rings_s lines_s stretch_s framed between_s coords_s pair_s ◌⨟◌
 b11 = refl
 
 -- Each record is a collection of the next: sixteen begin, and the part at level 17 gives 13.
@@ -43,8 +43,8 @@ endless n = some (record { kind = 7; xy = none; ends = none; z = none; m = none;
 
 abbrev begins : ℕ → Script Event
 begins zero = stop 13
-begins (suc n) = say (beginE 7 false 1 0) (begins n)
+begins (suc n) = say (begin_e 7 false 1 0) (begins n)
 
-pub level-17 : (F : Flags) → readS F endless 0 ≡ begins 16
-unfolding readS rootS geometryS kindS spanS partsS framed ◌⨟◌
-level-17 F = refl
+pub level_17 : (F : Flags) → read_s F endless 0 ≡ begins 16
+unfolding read_s root_s geometry_s kind_s span_s parts_s framed ◌⨟◌
+level_17 F = refl

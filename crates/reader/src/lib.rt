@@ -2,12 +2,12 @@
 ghost use Rattle.std.specs.Prelude.{◌≡◌, cond, ◌<◌, eqb};
 ghost use Rattle.laws.specs.Script.{out, run};
 ghost use Rattle.laws.specs.Cut.{Said};
-ghost use Rattle.store.specs.Lists.{poolsOf, parts_of, lists_of, recordWith};
+ghost use Rattle.store.specs.Lists.{pools_of, parts_of, lists_of, record_with};
 ghost use Rattle.log.specs.Log.{events};
 ghost use Rattle.own_lists.specs.Own.{InPools};
-ghost use Rattle.reader.specs.Reading.{spanS, readS};
+ghost use Rattle.reader.specs.Reading.{span_s, read_s};
 ghost use Rattle.walks.specs.Walks.{Typed};
-ghost use Rattle.reader.specs.Roles.{partS, walkS};
+ghost use Rattle.reader.specs.Roles.{part_s, walk_s};
 
 use kinds::answer::Answer;
 use kinds::event::Event;
@@ -35,9 +35,9 @@ fn read_geometry_n(
     idx: u32,
     levels: u8,
 ) -> Answer
-    requires { InPools (poolsOf xy.now ends.now z.now m.now t.now tm.now) g × Typed walk }
-    ensures { let P = poolsOf xy.now ends.now z.now m.now t.now tm.now in
-        run (events feature) (walkS flags levels (recordWith table.now P) (lists_of P g) walk idx)
+    requires { InPools (pools_of xy.now ends.now z.now m.now t.now tm.now) g × Typed walk }
+    ensures { let P = pools_of xy.now ends.now z.now m.now t.now tm.now in
+        run (events feature) (walk_s flags levels (record_with table.now P) (lists_of P g) walk idx)
         log.old count ≡ out result.number result.count log.new }
 {
     match walk {
@@ -78,8 +78,8 @@ fn read_geometrycollection(
     levels: u8,
 ) -> Answer
     requires { kind < 32 }
-    ensures { let P = poolsOf xy.now ends.now z.now m.now t.now tm.now in
-        run (events feature) (spanS (partS flags role levels (recordWith table.now P)) (parts_of parts) kind idx)
+    ensures { let P = pools_of xy.now ends.now z.now m.now t.now tm.now in
+        run (events feature) (span_s (part_s flags role levels (record_with table.now P)) (parts_of parts) kind idx)
         log.old count ≡ out result.number result.count log.new }
 {
     let Span::Stretch { start, count: size } = parts else {
@@ -127,8 +127,8 @@ fn read_part(
     idx: u32,
     levels: u8,
 ) -> Answer
-    ensures { let P = poolsOf xy.now ends.now z.now m.now t.now tm.now in
-        run (events feature) (partS flags role levels (recordWith table.now P) n idx)
+    ensures { let P = pools_of xy.now ends.now z.now m.now t.now tm.now in
+        run (events feature) (part_s flags role levels (record_with table.now P) n idx)
         log.old count ≡ out result.number result.count log.new }
 {
     if levels == 0 {
@@ -200,8 +200,8 @@ pub fn read(
     feature: u32,
     log: &mut [u8],
 ) -> Answer
-    ensures { Said (events feature) (readS flags (recordWith table.now
-        (poolsOf xy.now ends.now z.now m.now t.now tm.now)) declared)
+    ensures { Said (events feature) (read_s flags (record_with table.now
+        (pools_of xy.now ends.now z.now m.now t.now tm.now)) declared)
         log.old result.number result.count log.new }
 {
     let pools = Lent::new(xy.len(), ends.len(), z.len(), m.len(), t.len(), tm.len());

@@ -3,24 +3,24 @@ use Rattle.std.specs.Prelude.{List, [], ℕ}
 use Rattle.std.proofs.Math.Option.{Option, none, some}
 use Rattle.store.specs.Lists.{Rec}
 use Rattle.tree_walk.specs.Tree.{Out, refused, went, through}
-use Rattle.tree_walk.specs.Records.{partsBy}
+use Rattle.tree_walk.specs.Records.{parts_by}
 use Rattle.bbox.specs.declared.Box.{Box}
-use Rattle.bbox.specs.Box.{beginning, boxFrom}
+use Rattle.bbox.specs.Box.{beginning, box_from}
 use Rattle.record_box.specs.declared.Boxed.{Boxed}
 
 -- the words of a list; one that is absent has none
-abbrev pub wordsOf : Option (List ℕ) → List ℕ
-wordsOf none = []
-wordsOf (some words) = words
+abbrev pub words_of : Option (List ℕ) → List ℕ
+words_of none = []
+words_of (some words) = words
 
 -- a bad record has no list of its own
-abbrev pub ownXy : Option Rec → List ℕ
-ownXy none = []
-ownXy (some r) = wordsOf r.xy
+abbrev pub own_xy : Option Rec → List ℕ
+own_xy none = []
+own_xy (some r) = words_of r.xy
 
 -- the box after a record's own xy list
-unfoldable pub ownBox : (ℕ → Option Rec) → ℕ → Box → Box
-ownBox get n b = boxFrom b (ownXy (get n))
+unfoldable pub own_box : (ℕ → Option Rec) → ℕ → Box → Box
+own_box get n b = box_from b (own_xy (get n))
 
 -- a refusal has the box as it began
 abbrev pub boxed : Out Box → Boxed
@@ -28,5 +28,5 @@ boxed (refused number) = record { number = number; bbox = beginning }
 boxed (went b) = record { number = 0; bbox = b }
 
 -- record n is level 1, and 16 is the last
-unfoldable pub boxOf : (ℕ → Option Rec) → ℕ → Boxed
-boxOf get n = boxed (through (partsBy get) (ownBox get) 16 n beginning)
+unfoldable pub box_of : (ℕ → Option Rec) → ℕ → Boxed
+box_of get n = boxed (through (parts_by get) (own_box get) 16 n beginning)

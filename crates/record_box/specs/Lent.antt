@@ -13,61 +13,61 @@ use Rattle.kinds.specs.declared.geometry.Span.{Span}
 use Rattle.kinds.specs.declared.geometry.Span.TheVariants.{Stretch}
 use Rattle.kinds.specs.declared.geometry.Judged.{Judged}
 use Rattle.kinds.specs.declared.geometry.Judged.TheVariants.{Good, Bad}
-use Rattle.store.specs.Records.{recordAt}
+use Rattle.store.specs.Records.{record_at}
 use Rattle.store.specs.RecordLaws.{InPool}
 use Rattle.store.specs.Lone.{LoneAt, LoneList}
-use Rattle.store.specs.Lists.{Pools, lent_of, list_of, parts_of, seen, recordWith}
+use Rattle.store.specs.Lists.{Pools, lent_of, list_of, parts_of, seen, record_with}
 use Rattle.tree_walk.specs.declared.Parts.{Parts}
-use Rattle.tree_walk.specs.Memory.{Left, left, next, isMark, partsKept, ownOnce, marking, walked}
-use Rattle.tree_walk.specs.Records.{partsFrom, partsLent, bad-parts, good-parts}
-use Rattle.tree_walk.specs.Steps.{in-bad, in-good}
+use Rattle.tree_walk.specs.Memory.{Left, left, next, is_mark, parts_kept, own_once, marking, walked}
+use Rattle.tree_walk.specs.Records.{parts_from, parts_lent, bad_parts, good_parts}
+use Rattle.tree_walk.specs.Steps.{in_bad, in_good}
 use Rattle.bbox.specs.declared.Box.{Box}
-use Rattle.bbox.specs.Box.{boxFrom}
-use Rattle.record_box.specs.Boxed.{wordsOf, ownXy, ownBox}
+use Rattle.bbox.specs.Box.{box_from}
+use Rattle.record_box.specs.Boxed.{words_of, own_xy, own_box}
 
-abbrev ownJudged : List ℕ → Judged → List ℕ
-ownJudged xy Bad = []
-ownJudged xy (Good g) = wordsOf (list_of xy g.xy)
+abbrev own_judged : List ℕ → Judged → List ℕ
+own_judged xy Bad = []
+own_judged xy (Good g) = words_of (list_of xy g.xy)
 
-unfoldable pub ownLent : List ℕ → Lent → List ℕ → ℕ → Box → Box
-ownLent table lent xy n b = boxFrom b (ownJudged xy (recordAt table lent n))
+unfoldable pub own_lent : List ℕ → Lent → List ℕ → ℕ → Box → Box
+own_lent table lent xy n b = box_from b (own_judged xy (record_at table lent n))
 
-pub by-lent : (table : List ℕ) (P : Pools) → ownBox (recordWith table P) ≡ ownLent table (lent_of P) P.xy
-unfolding ownBox ownLent recordWith
-by-lent table P = λ i n b. boxFrom b (go (recordAt table (lent_of P) n) i)
+pub by_lent : (table : List ℕ) (P : Pools) → own_box (record_with table P) ≡ own_lent table (lent_of P) P.xy
+unfolding own_box own_lent record_with
+by_lent table P = λ i n b. box_from b (go (record_at table (lent_of P) n) i)
   where
-    go : (j : Judged) → ownXy (seen P j) ≡ ownJudged P.xy j
+    go : (j : Judged) → own_xy (seen P j) ≡ own_judged P.xy j
     go Bad = refl
     go (Good g) = refl
 
 -- ---- a record that the walk does not skip, as the code reads it
 
 -- its own list is looked at where it has no mark
-abbrev pub ownLooked : List ℕ → ℕ → Span → Box → Box
-ownLooked xy mark s b = cond (isMark mark) b (boxFrom b (wordsOf (list_of xy s)))
+abbrev pub own_looked : List ℕ → ℕ → Span → Box → Box
+own_looked xy mark s b = cond (is_mark mark) b (box_from b (words_of (list_of xy s)))
 
 module _ (table : List ℕ) (lent : Lent) (xy : List ℕ) (part : ℕ → Box → List ℕ → ℕ → Left Box) (levels n : ℕ) (b : Box) (m : List ℕ) where
-  pub bad-walked : {j : Judged} → j ≡ recordAt table lent n → j ≡ Bad → walked (partsLent table lent) (ownLent table lent xy) part levels n b m 0 ≡ left 10 b m 0
-  bad-walked e h = in-bad (partsLent table lent) (ownLent table lent xy) part levels n b m 0 (bad-parts table lent n (sym e ∙ h))
+  pub bad_walked : {j : Judged} → j ≡ record_at table lent n → j ≡ Bad → walked (parts_lent table lent) (own_lent table lent xy) part levels n b m 0 ≡ left 10 b m 0
+  bad_walked e h = in_bad (parts_lent table lent) (own_lent table lent xy) part levels n b m 0 (bad_parts table lent n (sym e ∙ h))
 
-  own_is : (g : Geometry) → recordAt table lent n ≡ Good g → {c : Box} → c ≡ ownLooked xy (get_or m n 0) g.xy b → c ≡ ownOnce (ownLent table lent xy) (get_or m n 0) n b
-  unfolding ownLent
-  own_is g h p = p ∙ ap (λ (j : Judged). cond (isMark (get_or m n 0)) b (boxFrom b (ownJudged xy j))) (sym h)
+  own_is : (g : Geometry) → record_at table lent n ≡ Good g → {c : Box} → c ≡ own_looked xy (get_or m n 0) g.xy b → c ≡ own_once (own_lent table lent xy) (get_or m n 0) n b
+  unfolding own_lent
+  own_is g h p = p ∙ ap (λ (j : Judged). cond (is_mark (get_or m n 0)) b (box_from b (own_judged xy j))) (sym h)
 
-  pub good-walked : {j : Judged} {g : Geometry} {r : Parts} {c : Box} → j ≡ recordAt table lent n → j ≡ Good g → r ≡ partsFrom n (parts_of g.parts) → c ≡ ownLooked xy (get_or m n 0) g.xy b
-      → walked (partsLent table lent) (ownLent table lent xy) part levels n b m 0 ≡ next (partsKept part r.count r.first c m 0) (marking n levels)
-  good-walked {j} {g} {r} e h p o =
-      in-good (partsLent table lent) (ownLent table lent xy) part levels n b m 0 r (good-parts table lent n g (sym e ∙ h) ∙ ap {B = Option Parts} some (sym p)) (own_is g (sym e ∙ h) o)
+  pub good_walked : {j : Judged} {g : Geometry} {r : Parts} {c : Box} → j ≡ record_at table lent n → j ≡ Good g → r ≡ parts_from n (parts_of g.parts) → c ≡ own_looked xy (get_or m n 0) g.xy b
+      → walked (parts_lent table lent) (own_lent table lent xy) part levels n b m 0 ≡ next (parts_kept part r.count r.first c m 0) (marking n levels)
+  good_walked {j} {g} {r} e h p o =
+      in_good (parts_lent table lent) (own_lent table lent xy) part levels n b m 0 r (good_parts table lent n g (sym e ∙ h) ∙ ap {B = Option Parts} some (sym p)) (own_is g (sym e ∙ h) o)
 
 -- ---- a record with one list and no parts
 module _ (table : List ℕ) (lent : Lent) (xy : List ℕ) (n : ℕ) {l : Lone} {start count : ℕ} (e : l ≡ Alone start count) (h : LoneAt table lent.xy n l) where
   alone : LoneList table lent.xy n start count
   alone = subst (LoneAt table lent.xy n) e h
 
-  pub lone-in-pool : lent.xy ≡ length xy → InPool (Stretch start count) (length xy) 131072
-  lone-in-pool p = subst (λ (l : ℕ). InPool (Stretch start count) l 131072) p alone.in-pool
+  pub lone_in_pool : lent.xy ≡ length xy → InPool (Stretch start count) (length xy) 131072
+  lone_in_pool p = subst (λ (l : ℕ). InPool (Stretch start count) l 131072) p alone.in_pool_lem
 
-  pub lone-walked : (part : ℕ → Box → List ℕ → ℕ → Left Box) (levels : ℕ) (b : Box) (m : List ℕ) {c : Box} → c ≡ ownLooked xy (get_or m n 0) (Stretch start count) b
-      → walked (partsLent table lent) (ownLent table lent xy) part levels n b m 0 ≡ left 0 c (set m n levels) 0
-  unfolding partsKept
-  lone-walked part levels b m o = good-walked table lent xy part levels n b m {r = record { first = n + 1; count = 0 }} (sym (alone.reads lent refl)) refl refl o
+  pub lone_walked : (part : ℕ → Box → List ℕ → ℕ → Left Box) (levels : ℕ) (b : Box) (m : List ℕ) {c : Box} → c ≡ own_looked xy (get_or m n 0) (Stretch start count) b
+      → walked (parts_lent table lent) (own_lent table lent xy) part levels n b m 0 ≡ left 0 c (set m n levels) 0
+  unfolding parts_kept
+  lone_walked part levels b m o = good_walked table lent xy part levels n b m {r = record { first = n + 1; count = 0 }} (sym (alone.reads lent refl)) refl refl o

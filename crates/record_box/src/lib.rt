@@ -1,12 +1,12 @@
 // A geometry's box, by record number: its own pairs and then each part's, in order, to the last level.
 ghost use Rattle.std.specs.Prelude.{◌≡◌, ◌-◌, ◌<◌, length};
 ghost use Rattle.store.specs.RecordLaws.{InPool};
-ghost use Rattle.store.specs.Lists.{poolsOf, recordWith};
+ghost use Rattle.store.specs.Lists.{pools_of, record_with};
 ghost use Rattle.tree_walk.specs.Tree.{refused};
 ghost use Rattle.tree_walk.specs.Memory.{left, walked, kept, uncounted};
-ghost use Rattle.tree_walk.specs.Records.{partsLent};
-ghost use Rattle.record_box.specs.Boxed.{boxed, boxOf};
-ghost use Rattle.record_box.specs.Lent.{ownLooked, ownLent};
+ghost use Rattle.tree_walk.specs.Records.{parts_lent};
+ghost use Rattle.record_box.specs.Boxed.{boxed, box_of};
+ghost use Rattle.record_box.specs.Lent.{own_looked, own_lent};
 
 use bbox::Box;
 use kinds::geometry::{Judged, Lent, Lone, Span};
@@ -22,7 +22,7 @@ pub struct Boxed {
 // A record's own list is looked at only where the record was never walked through.
 fn own_once(xy: &[u64], s: Span, mark: u16, around: Box) -> Box
     requires { InPool s (length xy.now) 131072 }
-    ensures { result ≡ ownLooked xy.now mark s around }
+    ensures { result ≡ own_looked xy.now mark s around }
 {
     if is_clear(mark, usable::LEVELS) {
         return around;
@@ -50,8 +50,8 @@ fn enter(
 ) -> Boxed
     requires pool { lent.xy ≡ length xy.now }
     requires number { n < 4096 }
-    ensures { let own = ownLent table.now lent xy.now in
-        kept uncounted (partsLent table.now lent) own levels n around marks.old 0 ≡ left result.number result.bbox marks.new 0 }
+    ensures { let own = own_lent table.now lent xy.now in
+        kept uncounted (parts_lent table.now lent) own levels n around marks.old 0 ≡ left result.number result.bbox marks.new 0 }
 {
     if levels == 0 {
         return Boxed {
@@ -93,8 +93,8 @@ fn walk(
     requires pool { lent.xy ≡ length xy.now }
     requires number { n < 4096 }
     requires level { 0 < levels }
-    ensures { let get = partsLent table.now lent in
-        let own = ownLent table.now lent xy.now in
+    ensures { let get = parts_lent table.now lent in
+        let own = own_lent table.now lent xy.now in
         walked get own (kept uncounted get own (levels - 1)) levels n around marks.old 0 ≡ left result.number result.bbox marks.new 0 }
 {
     let Judged::Good(g) = store::record_at(table, lent, n) else {
@@ -147,8 +147,8 @@ pub fn box_at(
     tm: &[u64],
     n: usize,
 ) -> Boxed
-    ensures { let P = poolsOf xy.now ends.now z.now m.now t.now tm.now in
-        result ≡ boxOf (recordWith table.now P) n }
+    ensures { let P = pools_of xy.now ends.now z.now m.now t.now tm.now in
+        result ≡ box_of (record_with table.now P) n }
 {
     if usable::RECORDS <= n {
         return refuse(refusal::BAD_RECORD);

@@ -4,8 +4,8 @@ ghost use Rattle.std.proofs.lemmas.List.Edits.{sets};
 ghost use Rattle.pending.specs.Words.{used};
 ghost use Rattle.writing.specs.State.{wrote};
 ghost use Rattle.writing.specs.Feature.{belongs};
-ghost use Rattle.runs.specs.Plain.{blockedNumber, amid};
-ghost use Rattle.runs.specs.Run.{pairRoom, withPair};
+ghost use Rattle.runs.specs.Plain.{blocked_number, amid};
+ghost use Rattle.runs.specs.Run.{pair_room, with_pair};
 
 use crate::blocked::blocked_number;
 use kinds::{refusal, usable};
@@ -15,9 +15,9 @@ use writing::feature::{Feature, belongs};
 use writing::state::{State, Wrote};
 
 pub fn take_alone(s: State, n: u32, ready: bool, x: u64, y: u64, xy: &mut [u64]) -> Wrote
-    ensures answer { let room = belongs s.feature n && ready && pairRoom s.pending (length xy.old) in
-        result ≡ cond room (wrote 0 (amid s n (withPair s.pending))) (wrote (blockedNumber s n) s) }
-    ensures words { let room = belongs s.feature n && ready && pairRoom s.pending (length xy.old) in
+    ensures answer { let room = belongs s.feature n && ready && pair_room s.pending (length xy.old) in
+        result ≡ cond room (wrote 0 (amid s n (with_pair s.pending))) (wrote (blocked_number s n) s) }
+    ensures words { let room = belongs s.feature n && ready && pair_room s.pending (length xy.old) in
         xy.new ≡ cond room (sets xy.old (used s.pending.xy) (x ∷ y ∷ [])) xy.old }
 {
     let feature = s.feature;

@@ -3,8 +3,8 @@
 ghost use Rattle.std.specs.Prelude.{◌≡◌, true, cond, [], ◌∷◌, ◌/◌, ◌≤◌, length};
 ghost use Rattle.std.proofs.lemmas.List.Edits.{sets};
 ghost use Rattle.pending.specs.Words.{used};
-ghost use Rattle.pending.specs.Growth.{grownValues};
-ghost use Rattle.runs.specs.Run.{valuesRoom, values_of, Ran};
+ghost use Rattle.pending.specs.Growth.{grown_values};
+ghost use Rattle.runs.specs.Run.{values_room, values_of, Ran};
 
 use asking::ask::{Added, pair_with};
 use kinds::event::{Event, Heard};
@@ -36,7 +36,7 @@ pub struct Reached {
 
 // Room for a coordinate: the ends are left as they are.
 fn values_room(p: Pending, a: Added, xy: usize, z: usize, m: usize, t: usize, tm: usize) -> bool
-    ensures { result ≡ valuesRoom p a xy z m t tm }
+    ensures { result ≡ values_room p a xy z m t tm }
 {
     if !lane_room(p.xy, a.xy, Words::PAIR, xy, usable::XY_WORDS) {
         return false;
@@ -64,8 +64,8 @@ fn push_values(
     t: &mut [u64],
     tm: &mut [u64],
 ) -> Pending
-    requires { valuesRoom p added (length xy.old) (length z.old) (length m.old) (length t.old) (length tm.old) ≡ true }
-    ensures pending { result ≡ grownValues p added }
+    requires { values_room p added (length xy.old) (length z.old) (length m.old) (length t.old) (length tm.old) ≡ true }
+    ensures pending { result ≡ grown_values p added }
     ensures pairs { xy.new ≡ sets xy.old (used p.xy) (cond added.xy (e.x ∷ e.y ∷ []) []) }
     ensures zs { z.new ≡ sets z.old (used p.z) (cond added.z (e.z ∷ []) []) }
     ensures ms { m.new ≡ sets m.old (used p.m) (cond added.m (e.m ∷ []) []) }

@@ -8,7 +8,7 @@ use Rattle.kinds.specs.declared.geometry.Span.{Span}
 use Rattle.kinds.specs.declared.geometry.Span.TheVariants.{Absent, Stretch}
 use Rattle.kinds.specs.declared.geometry.Judged.{Judged}
 use Rattle.kinds.specs.declared.geometry.Judged.TheVariants.{Good, Bad}
-use Rattle.store.specs.Records.{recordAt}
+use Rattle.store.specs.Records.{record_at}
 
 -- the words of the six pools
 pub record Pools : Type 0 where
@@ -19,8 +19,8 @@ pub record Pools : Type 0 where
   pub t : List ℕ
   pub tm : List ℕ
 
-abbrev pub poolsOf : List ℕ → List ℕ → List ℕ → List ℕ → List ℕ → List ℕ → Pools
-poolsOf xy ends z m t tm = record { xy = xy; ends = ends; z = z; m = m; t = t; tm = tm }
+abbrev pub pools_of : List ℕ → List ℕ → List ℕ → List ℕ → List ℕ → List ℕ → Pools
+pools_of xy ends z m t tm = record { xy = xy; ends = ends; z = z; m = m; t = t; tm = tm }
 
 abbrev pub lent_of : Pools → Lent
 lent_of P = record { xy = length P.xy; ends = length P.ends; z = length P.z; m = length P.m; t = length P.t; tm = length P.tm }
@@ -62,17 +62,17 @@ seen P Bad = none
 seen P (Good g) = some (lists_of P g)
 
 -- the record with a number, none where it is bad
-unfoldable pub recordWith : List ℕ → Pools → ℕ → Option Rec
-recordWith table P n = seen P (recordAt table (lent_of P) n)
+unfoldable pub record_with : List ℕ → Pools → ℕ → Option Rec
+record_with table P n = seen P (record_at table (lent_of P) n)
 
-pub with-good : (table : List ℕ) (P : Pools) (n : ℕ) (g : Geometry) → recordAt table (lent_of P) n ≡ Good g → recordWith table P n ≡ some (lists_of P g)
-unfolding recordWith
-with-good table P n g h = rw h
+pub with_good : (table : List ℕ) (P : Pools) (n : ℕ) (g : Geometry) → record_at table (lent_of P) n ≡ Good g → record_with table P n ≡ some (lists_of P g)
+unfolding record_with
+with_good table P n g h = rw h
 
-pub with-bad : (table : List ℕ) (P : Pools) (n : ℕ) → recordAt table (lent_of P) n ≡ Bad → recordWith table P n ≡ none
-unfolding recordWith
-with-bad table P n h = rw h
+pub with_bad : (table : List ℕ) (P : Pools) (n : ℕ) → record_at table (lent_of P) n ≡ Bad → record_with table P n ≡ none
+unfolding record_with
+with_bad table P n h = rw h
 
 -- a stretch within its pool has as many words as it says
-pub stretch-length : (pool : List ℕ) (start count : ℕ) → start + count ≤ length pool → length (take count (drop start pool)) ≡ count
-stretch-length pool start count h = length-take-le count (drop start pool) (omega (arith, length-drop start pool))
+pub stretch_length : (pool : List ℕ) (start count : ℕ) → start + count ≤ length pool → length (take count (drop start pool)) ≡ count
+stretch_length pool start count h = length-take-le count (drop start pool) (omega (arith, length-drop start pool))

@@ -5,38 +5,38 @@ use Rattle.std.proofs.Common.{◌∙◌, arith, length-take, length-drop, leb-tr
 use Rattle.std.proofs.Math.Seq.{length-sets}
 use Rattle.laws.specs.Every.{never, both}
 use Rattle.laws.specs.Blocks.{block, block_same, block-other}
-use Rattle.geometry_layout.specs.Geometry.{geometryBytes, geometryOf, soundGeometry, readGeometry}
-use Rattle.geometry_layout.specs.GeometryLaws.{geometry-length, geometry-back}
+use Rattle.geometry_layout.specs.Geometry.{geometry_bytes, geometry_of, sound_geometry, read_geometry}
+use Rattle.geometry_layout.specs.GeometryLaws.{geometry_length, geometry_back}
 use Rattle.kinds.specs.Geometry.{GeometrySized}
-use Rattle.kinds.specs.LaneLaws.{lane-of-every}
-use Rattle.kinds.specs.Lanes.{Lane, usable, spanIn, lentIn, everyLane}
+use Rattle.kinds.specs.LaneLaws.{lane_of_every}
+use Rattle.kinds.specs.Lanes.{Lane, usable, span_in, lent_in, every_lane}
 use Rattle.kinds.specs.declared.geometry.Geometry.{Geometry}
 use Rattle.kinds.specs.declared.geometry.Lent.{Lent}
 use Rattle.kinds.specs.declared.geometry.Span.{Span}
 use Rattle.kinds.specs.declared.geometry.Span.TheVariants.{Absent, Stretch}
 use Rattle.kinds.specs.declared.geometry.Judged.{Judged}
 use Rattle.kinds.specs.declared.geometry.Judged.TheVariants.{Good, Bad}
-use Rattle.store.specs.Records.{recordsLent, tableGood, hasRecord, recordIn, inPool, in_table, listsIn, judged, recordAt, putRecord}
+use Rattle.store.specs.Records.{records_lent, table_good, has_record, record_in, in_pool, in_table, lists_in, judged, record_at, put_record}
 
 -- a table that has a record has room for its 64 bytes
-pub record-room : (table : List ℕ) (n : ℕ) → hasRecord table n ≡ true → (n < recordsLent table) × (n < 4096)
-unfolding hasRecord
-record-room table n h =
-    let a = both (tableGood table && ltb n (recordsLent table)) (ltb n 4096) h in
-    (ltb-true n (recordsLent table) (both (tableGood table) (ltb n (recordsLent table)) a.0).1, ltb-true n 4096 a.1)
+pub record_room : (table : List ℕ) (n : ℕ) → has_record table n ≡ true → (n < records_lent table) × (n < 4096)
+unfolding has_record
+record_room table n h =
+    let a = both (table_good table && ltb n (records_lent table)) (ltb n 4096) h in
+    (ltb-true n (records_lent table) (both (table_good table) (ltb n (records_lent table)) a.0).1, ltb-true n 4096 a.1)
 
-pub record_is : (table : List ℕ) (pools : Lent) (n : ℕ) → hasRecord table n ≡ true → recordAt table pools n ≡ judged (recordIn table n) pools n (recordsLent table)
-unfolding recordAt
+pub record_is : (table : List ℕ) (pools : Lent) (n : ℕ) → has_record table n ≡ true → record_at table pools n ≡ judged (record_in table n) pools n (records_lent table)
+unfolding record_at
 record_is table pools n h = rw h
 
-pub record-none : (table : List ℕ) (pools : Lent) (n : ℕ) → hasRecord table n ≡ false → recordAt table pools n ≡ Bad
-unfolding recordAt
-record-none table pools n h = rw h
+pub record_none : (table : List ℕ) (pools : Lent) (n : ℕ) → has_record table n ≡ false → record_at table pools n ≡ Bad
+unfolding record_at
+record_none table pools n h = rw h
 
 -- a number that is not usable is no record's
-pub past-usable : (table : List ℕ) (pools : Lent) (n : ℕ) → 4096 ≤ n → recordAt table pools n ≡ Bad
-unfolding hasRecord
-past-usable table pools n h = record-none table pools n (no_record (tableGood table && ltb n (recordsLent table)) (ltb n 4096) (le-ltb n 4096 h))
+pub past-usable : (table : List ℕ) (pools : Lent) (n : ℕ) → 4096 ≤ n → record_at table pools n ≡ Bad
+unfolding has_record
+past-usable table pools n h = record_none table pools n (no_record (table_good table && ltb n (records_lent table)) (ltb n 4096) (le-ltb n 4096 h))
   where
     no_record : (p q : Bool) → q ≡ false → (p && q) ≡ false
     no_record true q e = e
@@ -51,81 +51,81 @@ abbrev pub InTable : Span → ℕ → ℕ → Type 0
 InTable Absent n lent = Unit
 InTable (Stretch start count) n lent = (n < start) × (start + count ≤ lent) × (start + count ≤ 4096)
 
-pub pool-bounds : (s : Span) (lent most : ℕ) → inPool s lent most ≡ true → InPool s lent most
-pool-bounds Absent lent most h = tt
-pool-bounds (Stretch start count) lent most h =
+pub pool_bounds : (s : Span) (lent most : ℕ) → in_pool s lent most ≡ true → InPool s lent most
+pool_bounds Absent lent most h = tt
+pool_bounds (Stretch start count) lent most h =
     let t = both (leb (start + count) lent) (leb (start + count) most) h in
     (leb-true (start + count) lent t.0, leb-true (start + count) most t.1)
 
-table-bounds : (s : Span) (n lent : ℕ) → in_table s n lent ≡ true → InTable s n lent
-table-bounds Absent n lent h = tt
-table-bounds (Stretch start count) n lent h =
+table_bounds : (s : Span) (n lent : ℕ) → in_table s n lent ≡ true → InTable s n lent
+table_bounds Absent n lent h = tt
+table_bounds (Stretch start count) n lent h =
     let t = both (ltb n start && leb (start + count) lent) (leb (start + count) 4096) h in
     let u = both (ltb n start) (leb (start + count) lent) t.0 in
     (ltb-true n start u.0, leb-true (start + count) lent u.1, leb-true (start + count) 4096 t.1)
 
 pub record Within (table : List ℕ) (pools : Lent) (n : ℕ) (g : Geometry) : Type 0 where
-  pub lent : n < recordsLent table
+  pub lent : n < records_lent table
   pub usable-number : n < 4096
-  pub read : recordIn table n ≡ Good g
-  pub lists : (k : Lane) → InPool (spanIn g k) (lentIn pools k) (usable k)
-  pub parts : InTable g.parts n (recordsLent table)
+  pub read : record_in table n ≡ Good g
+  pub lists : (k : Lane) → InPool (span_in g k) (lent_in pools k) (usable k)
+  pub parts : InTable g.parts n (records_lent table)
 
-pub within : (table : List ℕ) (pools : Lent) (n : ℕ) (g : Geometry) → recordAt table pools n ≡ Good g → Within table pools n g
-unfolding recordAt listsIn
-within table pools n g h = by_number (hasRecord table n) refl h
+pub within : (table : List ℕ) (pools : Lent) (n : ℕ) (g : Geometry) → record_at table pools n ≡ Good g → Within table pools n g
+unfolding record_at lists_in
+within table pools n g h = by_number (has_record table n) refl h
   where
-    by-lists : (b : Bool) (f : Geometry) → listsIn f pools n (recordsLent table) ≡ b → recordIn table n ≡ Good f → hasRecord table n ≡ true → cond b (Good f) Bad ≡ Good g → Within table pools n g
-    by-lists true f l r e h =
+    by_lists : (b : Bool) (f : Geometry) → lists_in f pools n (records_lent table) ≡ b → record_in table n ≡ Good f → has_record table n ≡ true → cond b (Good f) Bad ≡ Good g → Within table pools n g
+    by_lists true f l r e h =
         let same : f ≡ g = cc in
-        let a = both (everyLane (λ k. inPool (spanIn g k) (lentIn pools k) (usable k))) (in_table g.parts n (recordsLent table)) (rw same at l) in
-        let room = record-room table n e in
+        let a = both (every_lane (λ k. in_pool (span_in g k) (lent_in pools k) (usable k))) (in_table g.parts n (records_lent table)) (rw same at l) in
+        let room = record_room table n e in
         record {
           lent = room.0;
           usable-number = room.1;
           read = rw same at r;
-          lists = λ k. pool-bounds (spanIn g k) (lentIn pools k) (usable k) (lane-of-every (λ k. inPool (spanIn g k) (lentIn pools k) (usable k)) a.0 k);
-          parts = table-bounds g.parts n (recordsLent table) a.1;
+          lists = λ k. pool_bounds (span_in g k) (lent_in pools k) (usable k) (lane_of_every (λ k. in_pool (span_in g k) (lent_in pools k) (usable k)) a.0 k);
+          parts = table_bounds g.parts n (records_lent table) a.1;
         }
-    by-lists false f l r e h = absurd (never (cc))
+    by_lists false f l r e h = absurd (never (cc))
 
-    by-record : (r : Judged) → recordIn table n ≡ r → hasRecord table n ≡ true → judged r pools n (recordsLent table) ≡ Good g → Within table pools n g
-    by-record Bad r e h = absurd (never (cc))
-    by-record (Good f) r e h = by-lists (listsIn f pools n (recordsLent table)) f refl r e h
+    by_record : (r : Judged) → record_in table n ≡ r → has_record table n ≡ true → judged r pools n (records_lent table) ≡ Good g → Within table pools n g
+    by_record Bad r e h = absurd (never (cc))
+    by_record (Good f) r e h = by_lists (lists_in f pools n (records_lent table)) f refl r e h
 
-    by_number : (b : Bool) → hasRecord table n ≡ b → cond b (judged (recordIn table n) pools n (recordsLent table)) Bad ≡ Good g → Within table pools n g
-    by_number true e h = by-record (recordIn table n) refl e h
+    by_number : (b : Bool) → has_record table n ≡ b → cond b (judged (record_in table n) pools n (records_lent table)) Bad ≡ Good g → Within table pools n g
+    by_number true e h = by_record (record_in table n) refl e h
     by_number false e h = absurd (never (cc))
 
 -- a record that reads good is in the table
-pub good-lent : (table : List ℕ) (n : ℕ) (g : Geometry) → recordIn table n ≡ Good g → n < recordsLent table
-unfolding recordIn readGeometry
-good-lent table n g h = go (eqb (length (block 64 table n)) 64 && soundGeometry (block 64 table n)) refl h
+pub good_lent : (table : List ℕ) (n : ℕ) (g : Geometry) → record_in table n ≡ Good g → n < records_lent table
+unfolding record_in read_geometry
+good_lent table n g h = go (eqb (length (block 64 table n)) 64 && sound_geometry (block 64 table n)) refl h
   where
-    go : (b : Bool) → (eqb (length (block 64 table n)) 64 && soundGeometry (block 64 table n)) ≡ b → cond b (Good (geometryOf (block 64 table n))) Bad ≡ Good g → n < recordsLent table
+    go : (b : Bool) → (eqb (length (block 64 table n)) 64 && sound_geometry (block 64 table n)) ≡ b → cond b (Good (geometry_of (block 64 table n))) Bad ≡ Good g → n < records_lent table
     go true t h =
-        let e = eqb-true (length (block 64 table n)) 64 (both (eqb (length (block 64 table n)) 64) (soundGeometry (block 64 table n)) t).0 in
+        let e = eqb-true (length (block 64 table n)) 64 (both (eqb (length (block 64 table n)) 64) (sound_geometry (block 64 table n)) t).0 in
         omega (arith, e, length-take 64 (drop (64 * n) table), length-drop (64 * n) table)
     go false t h = absurd (never (cc))
 
 -- ---- putting record n down leaves every other record as it was
-pub put-length : (table : List ℕ) (n : ℕ) (g : Geometry) → length (putRecord table n g) ≡ length table
-unfolding putRecord
-put-length table n g = length-sets table (64 * n) (geometryBytes g)
+pub put-length : (table : List ℕ) (n : ℕ) (g : Geometry) → length (put_record table n g) ≡ length table
+unfolding put_record
+put-length table n g = length-sets table (64 * n) (geometry_bytes g)
 
-module _ (table : List ℕ) (n : ℕ) (g : Geometry) (room : n < recordsLent table) where
-  pub put_same : GeometrySized g → recordIn (putRecord table n g) n ≡ Good g
-  unfolding putRecord recordIn
-  put_same sized = ap readGeometry (block_same 64 table (geometryBytes g) n (geometry-length g) (omega arith)) ∙ geometry-back g sized
+module _ (table : List ℕ) (n : ℕ) (g : Geometry) (room : n < records_lent table) where
+  pub put_same : GeometrySized g → record_in (put_record table n g) n ≡ Good g
+  unfolding put_record record_in
+  put_same sized = ap read_geometry (block_same 64 table (geometry_bytes g) n (geometry_length g) (omega arith)) ∙ geometry_back g sized
 
-  pub put_other : (m : ℕ) → (m ≡ n → ⊥) → recordIn (putRecord table n g) m ≡ recordIn table m
-  unfolding putRecord recordIn
-  put_other m h = ap readGeometry (block-other 64 table (geometryBytes g) n (geometry-length g) (omega arith) m h)
+  pub put_other : (m : ℕ) → (m ≡ n → ⊥) → record_in (put_record table n g) m ≡ record_in table m
+  unfolding put_record record_in
+  put_other m h = ap read_geometry (block-other 64 table (geometry_bytes g) n (geometry_length g) (omega arith) m h)
 
-  pub put-other-at : (pools : Lent) (m : ℕ) → (m ≡ n → ⊥) → recordAt (putRecord table n g) pools m ≡ recordAt table pools m
-  unfolding recordAt hasRecord
-  put-other-at pools m h = rw (put-length table n g, put_other m h)
+  pub put_other_at : (pools : Lent) (m : ℕ) → (m ≡ n → ⊥) → record_at (put_record table n g) pools m ≡ record_at table pools m
+  unfolding record_at has_record
+  put_other_at pools m h = rw (put-length table n g, put_other m h)
 
-  pub put-same-at : (pools : Lent) → GeometrySized g → hasRecord table n ≡ true → listsIn g pools n (recordsLent table) ≡ true → recordAt (putRecord table n g) pools n ≡ Good g
-  unfolding recordAt hasRecord
-  put-same-at pools sized has lists = rw (put-length table n g, put_same sized, has, lists)
+  pub put_same_at : (pools : Lent) → GeometrySized g → has_record table n ≡ true → lists_in g pools n (records_lent table) ≡ true → record_at (put_record table n g) pools n ≡ Good g
+  unfolding record_at has_record
+  put_same_at pools sized has lists = rw (put-length table n g, put_same sized, has, lists)

@@ -2,8 +2,8 @@
 use Rattle.std.specs.Prelude.{Bool, true, cond, not, ◌&&◌, List, ℕ, ◌+◌, ◌*◌, ◌/◌, ◌%◌, length, leb, ltb, eqb}
 use Rattle.std.proofs.lemmas.List.Edits.{sets}
 use Rattle.laws.specs.Blocks.{block}
-use Rattle.geometry_layout.specs.Geometry.{geometryBytes, readGeometry}
-use Rattle.kinds.specs.Lanes.{usable, spanIn, lentIn, everyLane}
+use Rattle.geometry_layout.specs.Geometry.{geometry_bytes, read_geometry}
+use Rattle.kinds.specs.Lanes.{usable, span_in, lent_in, every_lane}
 use Rattle.kinds.specs.declared.geometry.Geometry.{Geometry}
 use Rattle.kinds.specs.declared.geometry.Lent.{Lent}
 use Rattle.kinds.specs.declared.geometry.Span.{Span}
@@ -12,41 +12,41 @@ use Rattle.kinds.specs.declared.geometry.Judged.{Judged}
 use Rattle.kinds.specs.declared.geometry.Judged.TheVariants.{Good, Bad}
 
 -- how many whole records a table has
-abbrev pub recordsLent : List ℕ → ℕ
-recordsLent table = length table / 64
+abbrev pub records_lent : List ℕ → ℕ
+records_lent table = length table / 64
 
 -- a table that is read has whole records, and at least one (SPEC 3.8)
-abbrev pub tableGood : List ℕ → Bool
-tableGood table = eqb (length table % 64) 0 && not (eqb (recordsLent table) 0)
+abbrev pub table_good : List ℕ → Bool
+table_good table = eqb (length table % 64) 0 && not (eqb (records_lent table) 0)
 
 -- SPEC 3.9: a good record is in the table, and usable,
-unfoldable pub hasRecord : List ℕ → ℕ → Bool
-hasRecord table n = tableGood table && ltb n (recordsLent table) && ltb n 4096
+unfoldable pub has_record : List ℕ → ℕ → Bool
+has_record table n = table_good table && ltb n (records_lent table) && ltb n 4096
 
 -- its own bytes are sound, which is the layout's matter,
-unfoldable pub recordIn : List ℕ → ℕ → Judged
-recordIn table n = readGeometry (block 64 table n)
+unfoldable pub record_in : List ℕ → ℕ → Judged
+record_in table n = read_geometry (block 64 table n)
 
 -- its lists lie within their pools, lent and usable,
-abbrev pub inPool : Span → ℕ → ℕ → Bool
-inPool Absent lent most = true
-inPool (Stretch start count) lent most = leb (start + count) lent && leb (start + count) most
+abbrev pub in_pool : Span → ℕ → ℕ → Bool
+in_pool Absent lent most = true
+in_pool (Stretch start count) lent most = leb (start + count) lent && leb (start + count) most
 
 -- and its parts stand above it, within the table, lent and usable
 abbrev pub in_table : Span → ℕ → ℕ → Bool
 in_table Absent n lent = true
 in_table (Stretch start count) n lent = ltb n start && leb (start + count) lent && leb (start + count) 4096
 
-unfoldable pub listsIn : Geometry → Lent → ℕ → ℕ → Bool
-listsIn g pools n lent = everyLane (λ k. inPool (spanIn g k) (lentIn pools k) (usable k)) && in_table g.parts n lent
+unfoldable pub lists_in : Geometry → Lent → ℕ → ℕ → Bool
+lists_in g pools n lent = every_lane (λ k. in_pool (span_in g k) (lent_in pools k) (usable k)) && in_table g.parts n lent
 
 abbrev pub judged : Judged → Lent → ℕ → ℕ → Judged
 judged Bad pools n lent = Bad
-judged (Good g) pools n lent = cond (listsIn g pools n lent) (Good g) Bad
+judged (Good g) pools n lent = cond (lists_in g pools n lent) (Good g) Bad
 
-unfoldable pub recordAt : List ℕ → Lent → ℕ → Judged
-recordAt table pools n = cond (hasRecord table n) (judged (recordIn table n) pools n (recordsLent table)) Bad
+unfoldable pub record_at : List ℕ → Lent → ℕ → Judged
+record_at table pools n = cond (has_record table n) (judged (record_in table n) pools n (records_lent table)) Bad
 
 -- ---- a record put down
-unfoldable pub putRecord : List ℕ → ℕ → Geometry → List ℕ
-putRecord table n g = sets table (64 * n) (geometryBytes g)
+unfoldable pub put_record : List ℕ → ℕ → Geometry → List ℕ
+put_record table n g = sets table (64 * n) (geometry_bytes g)

@@ -1,27 +1,27 @@
 // Geometry records by number.
 ghost use Rattle.std.specs.Prelude.{◌≡◌, ◌+◌, ◌<◌};
-ghost use Rattle.store.specs.Lone.{LoneAt, inXyPool};
-ghost use Rattle.store.specs.Records.{recordsLent, hasRecord, inPool, in_table, listsIn, judged, recordAt, putRecord};
+ghost use Rattle.store.specs.Lone.{LoneAt, in_xy_pool};
+ghost use Rattle.store.specs.Records.{records_lent, has_record, in_pool, in_table, lists_in, judged, record_at, put_record};
 
 use kinds::geometry::{Geometry, Judged, Lent, Lone, Span};
 use kinds::usable;
 
 // How many whole records a table has.
 pub fn records_lent(table: &[u8]) -> usize
-    ensures { result ≡ recordsLent table.now }
+    ensures { result ≡ records_lent table.now }
 {
     table.len() / 64
 }
 
 fn has_record(table: &[u8], n: usize) -> bool
-    ensures { result ≡ hasRecord table.now n }
+    ensures { result ≡ has_record table.now n }
 {
     let lent = table.len() / 64;
     (table.len() % 64 == 0) & (lent != 0) & (n < lent) & (n < usable::RECORDS)
 }
 
 fn in_pool(s: Span, lent: usize, most: usize) -> bool
-    ensures { result ≡ inPool s lent most }
+    ensures { result ≡ in_pool s lent most }
 {
     match s {
         Span::Absent => true,
@@ -45,7 +45,7 @@ fn in_table(s: Span, n: usize, lent: usize) -> bool
 }
 
 fn lists_in(g: Geometry, pools: Lent, n: usize, lent: usize) -> bool
-    ensures { result ≡ listsIn g pools n lent }
+    ensures { result ≡ lists_in g pools n lent }
 {
     let xy = g.xy;
     let ends = g.ends;
@@ -80,7 +80,7 @@ fn judge(read: Judged, pools: Lent, n: usize, lent: usize) -> Judged
 
 // The record with a number, its lists as stretches of pools of which so much is lent.
 pub fn record_at(table: &[u8], pools: Lent, n: usize) -> Judged
-    ensures { result ≡ recordAt table.now pools n }
+    ensures { result ≡ record_at table.now pools n }
 {
     if !has_record(table, n) {
         return Judged::Bad;
@@ -92,7 +92,7 @@ pub fn record_at(table: &[u8], pools: Lent, n: usize) -> Judged
 }
 
 fn in_xy_pool(read: Lone, lent: usize) -> Lone
-    ensures { result ≡ inXyPool read lent }
+    ensures { result ≡ in_xy_pool read lent }
 {
     match read {
         Lone::Other => Lone::Other,
@@ -123,8 +123,8 @@ pub fn lone_list_at(table: &[u8], lent: usize, n: usize) -> Lone
 
 // Puts a record down in a table that has its number.
 pub fn put_record(table: &mut [u8], n: usize, g: Geometry)
-    requires { n < recordsLent table.old }
-    ensures { table.new ≡ putRecord table.old n g }
+    requires { n < records_lent table.old }
+    ensures { table.new ≡ put_record table.old n g }
 {
     let from = 64 * n;
     let end = from + 64;

@@ -5,8 +5,8 @@ use Rattle.std.proofs.Common.{ap, arith}
 use Rattle.std.proofs.Math.Option.{Option, none, some}
 use Prim.Native.Nat.{ℕ, zero, suc, ◌+◌, ◌*◌, ◌≤◌, ◌<◌}
 use Rattle.tree_walk.specs.declared.Parts.{Parts}
-use Rattle.tree_walk.specs.Memory.{Left, left, next, skips, isMark, partsKept, foundKept, ownOnce, marking, walked, kept}
-use Rattle.tree_walk.specs.Visits.{places, few-entered}
+use Rattle.tree_walk.specs.Memory.{Left, left, next, skips, is_mark, parts_kept, found_kept, own_once, marking, walked, kept}
+use Rattle.tree_walk.specs.Visits.{places, few_entered}
 
 module _ {S R : Type 0} (Rel : S → R → Type 0) where
   pub data Like : Left S → Left R → Type 0 where
@@ -20,18 +20,18 @@ module _ {S R : Type 0} (Rel : S → R → Type 0) where
       go zero = h b d m v w p
       go (suc c) = like p
 
-  parts-like : (K : ℕ → S → List ℕ → ℕ → Left S) (L : ℕ → R → List ℕ → ℕ → Left R)
+  parts_like : (K : ℕ → S → List ℕ → ℕ → Left S) (L : ℕ → R → List ℕ → ℕ → Left R)
       → ((n : ℕ) (b : S) (d : R) (m : List ℕ) (v w : ℕ) → Rel b d → Like (K n b m v) (L n d m w))
-      → (c n : ℕ) (b : S) (d : R) (m : List ℕ) (v w : ℕ) → Rel b d → Like (partsKept K c n b m v) (partsKept L c n d m w)
-  unfolding partsKept
-  parts-like K L h zero n b d m v w p = like p
-  parts-like K L h (suc c) n b d m v w p =
-      next_like (K n b m v) (L n d m w) (partsKept K c (n + 1)) (partsKept L c (n + 1)) (h n b d m v w p) (λ e f m' u x q. parts-like K L h c (n + 1) e f m' u x q)
+      → (c n : ℕ) (b : S) (d : R) (m : List ℕ) (v w : ℕ) → Rel b d → Like (parts_kept K c n b m v) (parts_kept L c n d m w)
+  unfolding parts_kept
+  parts_like K L h zero n b d m v w p = like p
+  parts_like K L h (suc c) n b d m v w p =
+      next_like (K n b m v) (L n d m w) (parts_kept K c (n + 1)) (parts_kept L c (n + 1)) (h n b d m v w p) (λ e f m' u x q. parts_like K L h c (n + 1) e f m' u x q)
 
   module _ (tick tick' : ℕ → ℕ) (get : ℕ → Option Parts) (own : ℕ → S → S) (other : ℕ → R → R)
       (keeps : (n : ℕ) (b : S) (d : R) → Rel b d → Rel (own n b) (other n d)) where
-    once-like : (mark n : ℕ) (b : S) (d : R) → Rel b d → Rel (ownOnce own mark n b) (ownOnce other mark n d)
-    once-like mark n b d p = go (isMark mark)
+    once_like : (mark n : ℕ) (b : S) (d : R) → Rel b d → Rel (own_once own mark n b) (own_once other mark n d)
+    once_like mark n b d p = go (is_mark mark)
       where
         go : (t : Bool) → Rel (cond t b (own n b)) (cond t d (other n d))
         go true = p
@@ -44,24 +44,24 @@ module _ {S R : Type 0} (Rel : S → R → Type 0) where
     alike-below k n b d m v w ih p = by-mark (skips (get_or m n 0) (suc k))
       where
         one : Parts → Left S
-        one r = partsKept (kept tick get own k) r.count r.first (ownOnce own (get_or m n 0) n b) m (tick v)
+        one r = parts_kept (kept tick get own k) r.count r.first (own_once own (get_or m n 0) n b) m (tick v)
 
         two : Parts → Left R
-        two r = partsKept (kept tick' get other k) r.count r.first (ownOnce other (get_or m n 0) n d) m (tick' w)
+        two r = parts_kept (kept tick' get other k) r.count r.first (own_once other (get_or m n 0) n d) m (tick' w)
 
-        by-record : (o : Option Parts)
-            → Like (foundKept o b m (tick v) (λ r. next (one r) (marking n (suc k)))) (foundKept o d m (tick' w) (λ r. next (two r) (marking n (suc k))))
-        by-record none = like p
-        by-record (some r) =
+        by_record : (o : Option Parts)
+            → Like (found_kept o b m (tick v) (λ r. next (one r) (marking n (suc k)))) (found_kept o d m (tick' w) (λ r. next (two r) (marking n (suc k))))
+        by_record none = like p
+        by_record (some r) =
             next_like (one r) (two r) (marking n (suc k)) (marking n (suc k))
-            (parts-like (kept tick get own k) (kept tick' get other k) ih r.count r.first (ownOnce own (get_or m n 0) n b) (ownOnce other (get_or m n 0) n d) m (tick v) (tick' w) (once-like (get_or m n 0) n b d p))
+            (parts_like (kept tick get own k) (kept tick' get other k) ih r.count r.first (own_once own (get_or m n 0) n b) (own_once other (get_or m n 0) n d) m (tick v) (tick' w) (once_like (get_or m n 0) n b d p))
             (λ e f m' u x q. like q)
 
         by-mark : (t : Bool)
-            → Like (cond t (left 0 b m (tick v)) (foundKept (get n) b m (tick v) (λ r. next (one r) (marking n (suc k)))))
-            (cond t (left 0 d m (tick' w)) (foundKept (get n) d m (tick' w) (λ r. next (two r) (marking n (suc k)))))
+            → Like (cond t (left 0 b m (tick v)) (found_kept (get n) b m (tick v) (λ r. next (one r) (marking n (suc k)))))
+            (cond t (left 0 d m (tick' w)) (found_kept (get n) d m (tick' w) (λ r. next (two r) (marking n (suc k)))))
         by-mark true = like p
-        by-mark false = by-record (get n)
+        by-mark false = by_record (get n)
 
     pub alike : (k n : ℕ) (b : S) (d : R) (m : List ℕ) (v w : ℕ) → Rel b d → Like (kept tick get own k n b m v) (kept tick' get other k n d m w)
     unfolding kept
@@ -73,10 +73,10 @@ module _ {S : Type 0} where
   counted (like {w} p) e = (w, cc)
 
   -- whatever a walk counts, or nothing: counted one by one, it enters at most one record and each place once for each level
-  pub few-in-all : (tick : ℕ → ℕ) (get : ℕ → Option Parts) (own : ℕ → S → S) (most top blank : ℕ) → most ≤ 16 → isMark blank ≡ false → ((n : ℕ) (r : Parts) → get n ≡ some r → n < r.first)
+  pub few_in_all : (tick : ℕ → ℕ) (get : ℕ → Option Parts) (own : ℕ → S → S) (most top blank : ℕ) → most ≤ 16 → is_mark blank ≡ false → ((n : ℕ) (r : Parts) → get n ≡ some r → n < r.first)
       → ((n : ℕ) (r : Parts) → get n ≡ some r → n < top) → (k n : ℕ) (b : S) (u : ℕ) {c : ℕ} {e : S} {m : List ℕ} {v : ℕ} → k ≤ most
       → kept tick get own k n b (replicate top blank) u ≡ left c e m v
       → (w : ℕ) × (kept (λ x. x + 1) get own k n b (replicate top blank) 0 ≡ left c e m w) × (w ≤ 1 + most * places get top 0)
-  few-in-all tick get own most top blank few z up low k n b u deep h =
+  few_in_all tick get own most top blank few z up low k n b u deep h =
       let t = counted (alike (λ x y. x ≡ y) tick (λ x. x + 1) get own own (λ x c d p. ap (own x) p) k n b b (replicate top blank) u 0 refl) h in
-      (t.0, t.1, few-entered get most top own (λ x. x + 1) (λ x. omega arith) up low few blank z k n b deep t.1)
+      (t.0, t.1, few_entered get most top own (λ x. x + 1) (λ x. omega arith) up low few blank z k n b deep t.1)

@@ -7,9 +7,9 @@ use Rattle.std.proofs.lemmas.List.{length-replicate}
 use Rattle.std.proofs.lemmas.Bool.{eqb-false}
 use Rattle.tree_walk.specs.declared.Parts.{Parts}
 use Rattle.laws.specs.Every.{never}
-use Rattle.tree_walk.specs.Memory.{Left, left, next, isMark, partsKept, ownOnce, marking, kept}
+use Rattle.tree_walk.specs.Memory.{Left, left, next, is_mark, parts_kept, own_once, marking, kept}
 use Rattle.tree_walk.specs.Cases.{inside, entering}
-use Rattle.tree_walk.specs.Remembers.{set-mark, set-is-mark}
+use Rattle.tree_walk.specs.Remembers.{set-mark, set_is_mark}
 use Rattle.tree_walk.specs.Alike.{Like, like, alike}
 use Rattle.tree_walk.specs.Marks.{marked}
 
@@ -63,40 +63,40 @@ module _ (top : ℕ) where
       unmarked z x h true e = absurd (never (sym h ∙ q.stays z x e))
       unmarked z x h false e = p.after refl x e
 
-  next-sees : (n : ℕ) (f : Looks) (m : List ℕ) (l : Left Looks) (g : Looks → List ℕ → ℕ → Left Looks) → Sees n f m l
+  next_sees : (n : ℕ) (f : Looks) (m : List ℕ) (l : Left Looks) (g : Looks → List ℕ → ℕ → Left Looks) → Sees n f m l
       → ((f₁ : Looks) (m₁ : List ℕ) (v : ℕ) → length m₁ ≡ top → Sees (n + 1) f₁ m₁ (g f₁ m₁ v)) → Sees n f m (next l g)
-  next-sees n f m (left zero f₁ m₁ v) g p h = second n f f₁ m m₁ p (g f₁ m₁ v) (h f₁ m₁ v p.long)
-  next-sees n f m (left (suc c) f₁ m₁ v) g p h = p
+  next_sees n f m (left zero f₁ m₁ v) g p h = second n f f₁ m m₁ p (g f₁ m₁ v) (h f₁ m₁ v p.long)
+  next_sees n f m (left (suc c) f₁ m₁ v) g p h = p
 
-  parts-see : (K : ℕ → Looks → List ℕ → ℕ → Left Looks) → ((n : ℕ) (f : Looks) (m : List ℕ) (v : ℕ) → length m ≡ top → Sees n f m (K n f m v))
-      → (c n : ℕ) (f : Looks) (m : List ℕ) (v : ℕ) → length m ≡ top → Sees n f m (partsKept K c n f m v)
-  unfolding partsKept
-  parts-see K h zero n f m v k = unseen n 0 f m k
-  parts-see K h (suc c) n f m v k = next-sees n f m (K n f m v) (partsKept K c (n + 1)) (h n f m v k) (λ f₁ m₁ u k₁. parts-see K h c (n + 1) f₁ m₁ u k₁)
+  parts_see : (K : ℕ → Looks → List ℕ → ℕ → Left Looks) → ((n : ℕ) (f : Looks) (m : List ℕ) (v : ℕ) → length m ≡ top → Sees n f m (K n f m v))
+      → (c n : ℕ) (f : Looks) (m : List ℕ) (v : ℕ) → length m ≡ top → Sees n f m (parts_kept K c n f m v)
+  unfolding parts_kept
+  parts_see K h zero n f m v k = unseen n 0 f m k
+  parts_see K h (suc c) n f m v k = next_sees n f m (K n f m v) (parts_kept K c (n + 1)) (h n f m v k) (λ f₁ m₁ u k₁. parts_see K h c (n + 1) f₁ m₁ u k₁)
 
   -- a record's own words
   record Looked (n : ℕ) (f f₀ : Looks) (mark : ℕ) : Type 0 where
     there : (x : ℕ) → (x ≡ n → ⊥) → f₀ x ≡ f x
     here : f₀ n ≤ f n + 1
-    not-twice : isMark mark ≡ true → f₀ n ≡ f n
+    not_twice : is_mark mark ≡ true → f₀ n ≡ f n
 
-  looked : (n : ℕ) (f : Looks) (mark : ℕ) → Looked n f (ownOnce look mark n f) mark
-  looked n f mark = go (isMark mark) refl
+  looked : (n : ℕ) (f : Looks) (mark : ℕ) → Looked n f (own_once look mark n f) mark
+  looked n f mark = go (is_mark mark) refl
     where
-      go : (t : Bool) → isMark mark ≡ t → Looked n f (cond t f (look n f)) mark
-      go true e = record { there = λ x h. refl; here = omega arith; not-twice = λ h. refl }
-      go false e = record { there = look-there n f; here = omega (arith, look-here n f); not-twice = λ h. absurd (never (sym e ∙ h)) }
+      go : (t : Bool) → is_mark mark ≡ t → Looked n f (cond t f (look n f)) mark
+      go true e = record { there = λ x h. refl; here = omega arith; not_twice = λ h. refl }
+      go false e = record { there = look-there n f; here = omega (arith, look-here n f); not_twice = λ h. absurd (never (sym e ∙ h)) }
 
-  mark-sees : (n k first : ℕ) (f f₀ : Looks) (m : List ℕ) → suc k ≤ 16 → n < first → n < top → Looked n f f₀ (get_or m n 0) → (l : Left Looks) → Sees first f₀ m l
+  mark_sees : (n k first : ℕ) (f f₀ : Looks) (m : List ℕ) → suc k ≤ 16 → n < first → n < top → Looked n f f₀ (get_or m n 0) → (l : Left Looks) → Sees first f₀ m l
       → Sees n f m (next l (marking n (suc k)))
-  mark-sees n k first f f₀ m deep up low w l p = go l p
+  mark_sees n k first f f₀ m deep up low w l p = go l p
     where
       same : (c : ℕ) (f₁ : Looks) (m₁ : List ℕ) → Seen first f₀ m c f₁ m₁ → (x : ℕ) (t : Bool) → eqb x n ≡ t → f₁ x ≤ f x + 1
       same c f₁ m₁ p x true e = let q : x ≡ n = eqb-true x n e in rw q (omega (arith, p.under n up, w.here))
       same c f₁ m₁ p x false e = omega (arith, p.once x, w.there x (eqb-false x n e))
 
       held : (x : ℕ) (t : Bool) → eqb x n ≡ t → marked m x ≡ true → f₀ x ≡ f x
-      held x true e h = let q : x ≡ n = eqb-true x n e in rw q (w.not-twice (rw q at h))
+      held x true e h = let q : x ≡ n = eqb-true x n e in rw q (w.not_twice (rw q at h))
       held x false e h = w.there x (eqb-false x n e)
 
       go : (l : Left Looks) → Sees first f₀ m l → Sees n f m (next l (marking n (suc k)))
@@ -120,13 +120,13 @@ module _ (top : ℕ) where
           }
         where
           keeps : (x : ℕ) → marked m₁ x ≡ true → marked (set m₁ n (suc k)) x ≡ true
-          keeps x h = set-mark (λ y u. isMark u ≡ true) m₁ n (suc k) x h (set-is-mark k deep)
+          keeps x h = set-mark (λ y u. is_mark u ≡ true) m₁ n (suc k) x h (set_is_mark k deep)
 
           free : (x : ℕ) (t : Bool) → eqb x n ≡ t → marked (set m₁ n (suc k)) x ≡ false → (s : Bool) → marked m₁ x ≡ s → f₁ x ≡ f x
           free x true e h s d =
               let q : x ≡ n = eqb-true x n e in
               let i : n < length m₁ = omega (arith, p.long) in
-              let y : marked (set m₁ n (suc k)) x ≡ true = rw (q, get_or-set_same m₁ n (suc k) 0 i) (set-is-mark k deep) in
+              let y : marked (set m₁ n (suc k)) x ≡ true = rw (q, get_or-set_same m₁ n (suc k) 0 i) (set_is_mark k deep) in
               absurd (never (sym h ∙ y))
           free x false e h true d = absurd (never (sym h ∙ keeps x d))
           free x false e h false d = p.after refl x d ∙ w.there x (eqb-false x n e)
@@ -137,24 +137,24 @@ module _ (top : ℕ) where
     sees zero n f m v deep h = unseen n 13 f m h
     sees (suc k) n f m v deep h =
         entering tick get look k n f m v (Sees n f m) (λ s. unseen n 0 f m h) (λ e. unseen n 10 f m h)
-        (λ r e s. mark-sees n k r.first f (ownOnce look (get_or m n 0) n f) m deep (up n r e) (low n r e) (looked n f (get_or m n 0)) (inside tick get look k n f m v r)
-        (parts-see (kept tick get look k) (λ x g m' u. sees k x g m' u (omega arith)) r.count r.first (ownOnce look (get_or m n 0) n f) m (tick v) h))
+        (λ r e s. mark_sees n k r.first f (own_once look (get_or m n 0) n f) m deep (up n r e) (low n r e) (looked n f (get_or m n 0)) (inside tick get look k n f m v r)
+        (parts_see (kept tick get look k) (λ x g m' u. sees k x g m' u (omega arith)) r.count r.first (own_once look (get_or m n 0) n f) m (tick v) h))
 
-    at-most-once : (n : ℕ) (m : List ℕ) (l : Left Looks) → Sees n (λ x. 0) m l → {c : ℕ} {f : Looks} {m' : List ℕ} {v : ℕ} → l ≡ left c f m' v → (x : ℕ) → f x ≤ 1
-    at-most-once n m (left c₀ f₀ m₀ v₀) p {c} {f} e x = let q : f₀ ≡ f = cc in rw q at (p.once x)
+    at_most_once : (n : ℕ) (m : List ℕ) (l : Left Looks) → Sees n (λ x. 0) m l → {c : ℕ} {f : Looks} {m' : List ℕ} {v : ℕ} → l ≡ left c f m' v → (x : ℕ) → f x ≤ 1
+    at_most_once n m (left c₀ f₀ m₀ v₀) p {c} {f} e x = let q : f₀ ≡ f = cc in rw q at (p.once x)
 
     -- whatever comes of the walk, no record's own words are looked at twice
-    pub looked-at-once : (blank k n u : ℕ) {c : ℕ} {f : Looks} {m : List ℕ} {v : ℕ} → k ≤ 16 → kept tick get look k n (λ x. 0) (replicate top blank) u ≡ left c f m v → (x : ℕ) → f x ≤ 1
-    looked-at-once blank k n u deep e x =
+    pub looked_at_once : (blank k n u : ℕ) {c : ℕ} {f : Looks} {m : List ℕ} {v : ℕ} → k ≤ 16 → kept tick get look k n (λ x. 0) (replicate top blank) u ≡ left c f m v → (x : ℕ) → f x ≤ 1
+    looked_at_once blank k n u deep e x =
         let first = replicate top blank in
-        at-most-once n first (kept tick get look k n (λ y. 0) first u) (sees k n (λ y. 0) first u deep (length-replicate top blank)) e x
+        at_most_once n first (kept tick get look k n (λ y. 0) first u) (sees k n (λ y. 0) first u deep (length-replicate top blank)) e x
 
     -- so it is for any value: the same walk, with looks for its value, ends with the same number and marks
-    pub looks-once : {S : Type 0} (own : ℕ → S → S) (blank k n : ℕ) (b : S) (u : ℕ) {c : ℕ} {e : S} {m : List ℕ} {v : ℕ} → k ≤ 16 → kept tick get own k n b (replicate top blank) u ≡ left c e m v
+    pub looks_once : {S : Type 0} (own : ℕ → S → S) (blank k n : ℕ) (b : S) (u : ℕ) {c : ℕ} {e : S} {m : List ℕ} {v : ℕ} → k ≤ 16 → kept tick get own k n b (replicate top blank) u ≡ left c e m v
         → (f : Looks) × (w : ℕ) × (kept tick get look k n (λ x. 0) (replicate top blank) u ≡ left c f m w) × ((x : ℕ) → f x ≤ 1)
-    looks-once own blank k n b u deep h =
+    looks_once own blank k n b u deep h =
         let t = twin (alike (λ x y. Unit) tick tick get own look (λ x d f p. tt) k n b (λ x. 0) (replicate top blank) u u tt) h in
-        (t.0, t.1, t.2, looked-at-once blank k n u deep t.2)
+        (t.0, t.1, t.2, looked_at_once blank k n u deep t.2)
       where
         twin : {S : Type 0} {l : Left S} {l' : Left Looks} {c : ℕ} {e : S} {m : List ℕ} {v : ℕ} → Like (λ x y. Unit) l l' → l ≡ left c e m v
             → (f : Looks) × (w : ℕ) × (l' ≡ left c f m w)

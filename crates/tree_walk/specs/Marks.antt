@@ -9,10 +9,10 @@ use Rattle.tree_walk.specs.declared.Parts.{Parts}
 use Rattle.tree_walk.specs.Tree.{Out, went, through}
 use Rattle.tree_walk.specs.Widen.{all, Growing, growing}
 use Rattle.tree_walk.specs.Reached.{reached, joined}
-use Rattle.tree_walk.specs.Memory.{Left, left, next, isMark, partsKept, ownOnce, marking, kept}
+use Rattle.tree_walk.specs.Memory.{Left, left, next, is_mark, parts_kept, own_once, marking, kept}
 use Rattle.tree_walk.specs.Cases.{inside, entering}
 use Rattle.tree_walk.specs.Alike.{Like, like, alike}
-use Rattle.tree_walk.specs.Remembers.{set-mark, at_first, set-is-mark, Agree, agrees, so-went, none-marked}
+use Rattle.tree_walk.specs.Remembers.{set-mark, at_first, set_is_mark, Agree, agrees, so_went, none_marked}
 
 -- ---- a set of records is a value that is widened
 abbrev pub Set : Type 0
@@ -21,15 +21,15 @@ Set = ℕ → Bool
 abbrev add : ℕ → Set → Set
 add n s = λ x. eqb x n || s x
 
-add-met : (n : ℕ) (s : Set) → add n (add n s) ≡ add n s
-add-met n s = λ i x. twice (eqb x n) (s x) i
+add_met : (n : ℕ) (s : Set) → add n (add n s) ≡ add n s
+add_met n s = λ i x. twice (eqb x n) (s x) i
   where
     twice : (a b : Bool) → (a || (a || b)) ≡ (a || b)
     twice true b = refl
     twice false b = refl
 
-add-stays : (v w : ℕ) (s : Set) → add v s ≡ s → add v (add w s) ≡ add w s
-add-stays v w s h = λ i x. past (eqb x v) (eqb x w) (s x) (ap (λ (t : Set). t x) h) i
+add_stays : (v w : ℕ) (s : Set) → add v s ≡ s → add v (add w s) ≡ add w s
+add_stays v w s h = λ i x. past (eqb x v) (eqb x w) (s x) (ap (λ (t : Set). t x) h) i
   where
     past : (a b c : Bool) → (a || c) ≡ c → (a || (b || c)) ≡ (b || c)
     past true true c h = refl
@@ -45,17 +45,17 @@ flag_is n s x = refl
 
 flags : Growing Set flag
 unfolding flag
-flags = growing add add-met add-stays (λ n. n ∷ [])
+flags = growing add add_met add_stays (λ n. n ∷ [])
 
 -- whether a number is in a list
 unfoldable pub among : ℕ → List ℕ → Bool
 among x [] = false
 among x (y ∷ l) = eqb x y || among x l
 
-all-flags : (ns : List ℕ) (s : Set) (x : ℕ) → all flag ns s x ≡ (among x ns || s x)
+all_flags : (ns : List ℕ) (s : Set) (x : ℕ) → all flag ns s x ≡ (among x ns || s x)
 unfolding all among
-all-flags [] s x = refl
-all-flags (n ∷ ns) s x = all-flags ns (flag n s) x ∙ rw (flag_is n s x) (swap (eqb x n) (among x ns) (s x))
+all_flags [] s x = refl
+all_flags (n ∷ ns) s x = all_flags ns (flag n s) x ∙ rw (flag_is n s x) (swap (eqb x n) (among x ns) (s x))
   where
     swap : (a b c : Bool) → (b || (a || c)) ≡ ((a || b) || c)
     swap true true c = refl
@@ -64,7 +64,7 @@ all-flags (n ∷ ns) s x = all-flags ns (flag n s) x ∙ rw (flag_is n s x) (swa
 
 -- whether a record is marked
 abbrev pub marked : List ℕ → ℕ → Bool
-marked m x = isMark (get_or m x 0)
+marked m x = is_mark (get_or m x 0)
 
 either : {a b : Bool} (C : Type 0) → (a || b) ≡ true → (a ≡ true → C) → (b ≡ true → C) → C
 either {a} {b} C h f g = go a b h f g
@@ -109,21 +109,21 @@ module _ (top : ℕ) where
   Goes s m (left zero s' m' v) = Synced s m s' m'
   Goes s m (left (suc c) s' m' v) = Unit
 
-  next-goes : (s : Set) (m : List ℕ) (l : Left Set) (g : Set → List ℕ → ℕ → Left Set) → Goes s m l
+  next_goes : (s : Set) (m : List ℕ) (l : Left Set) (g : Set → List ℕ → ℕ → Left Set) → Goes s m l
       → ((s' : Set) (m' : List ℕ) (v : ℕ) → length m' ≡ top → ((x : ℕ) → marked m' x ≡ true → s' x ≡ true) → Goes s' m' (g s' m' v)) → Goes s m (next l g)
-  next-goes s m (left zero s' m' v) g p h = after (g s' m' v) (h s' m' v p.long p.flagged)
+  next_goes s m (left zero s' m' v) g p h = after (g s' m' v) (h s' m' v p.long p.flagged)
     where
       after : (l : Left Set) → Goes s' m' l → Goes s m l
       after (left zero s'' m'' u) q = both p q
       after (left (suc c) s'' m'' u) q = tt
-  next-goes s m (left (suc c) s' m' v) g p h = tt
+  next_goes s m (left (suc c) s' m' v) g p h = tt
 
-  parts-go : (K : ℕ → Set → List ℕ → ℕ → Left Set)
+  parts_go : (K : ℕ → Set → List ℕ → ℕ → Left Set)
       → ((n : ℕ) (s : Set) (m : List ℕ) (v : ℕ) → length m ≡ top → ((x : ℕ) → marked m x ≡ true → s x ≡ true) → Goes s m (K n s m v))
-      → (c n : ℕ) (s : Set) (m : List ℕ) (v : ℕ) → length m ≡ top → ((x : ℕ) → marked m x ≡ true → s x ≡ true) → Goes s m (partsKept K c n s m v)
-  unfolding partsKept
-  parts-go K h zero n s m v k f = unmoved s m k f
-  parts-go K h (suc c) n s m v k f = next-goes s m (K n s m v) (partsKept K c (n + 1)) (h n s m v k f) (λ s' m' v' k' f'. parts-go K h c (n + 1) s' m' v' k' f')
+      → (c n : ℕ) (s : Set) (m : List ℕ) (v : ℕ) → length m ≡ top → ((x : ℕ) → marked m x ≡ true → s x ≡ true) → Goes s m (parts_kept K c n s m v)
+  unfolding parts_kept
+  parts_go K h zero n s m v k f = unmoved s m k f
+  parts_go K h (suc c) n s m v k f = next_goes s m (K n s m v) (parts_kept K c (n + 1)) (h n s m v k f) (λ s' m' v' k' f'. parts_go K h c (n + 1) s' m' v' k' f')
 
   -- what a record's own words make of a set
   record Begun (n : ℕ) (s s₀ : Set) : Type 0 where
@@ -131,8 +131,8 @@ module _ (top : ℕ) where
     only : (x : ℕ) → s₀ x ≡ true → (s x || eqb x n) ≡ true
     here : s₀ n ≡ true
 
-  begun : (n : ℕ) (s : Set) (m : List ℕ) → ((x : ℕ) → marked m x ≡ true → s x ≡ true) → Begun n s (ownOnce flag (get_or m n 0) n s)
-  begun n s m f = by-mark (isMark (get_or m n 0)) (f n)
+  begun : (n : ℕ) (s : Set) (m : List ℕ) → ((x : ℕ) → marked m x ≡ true → s x ≡ true) → Begun n s (own_once flag (get_or m n 0) n s)
+  begun n s m f = by-mark (is_mark (get_or m n 0)) (f n)
     where
       turn : (a b : Bool) → (a || b) ≡ true → (b || a) ≡ true
       turn true true h = refl
@@ -148,24 +148,24 @@ module _ (top : ℕ) where
           }
       by-mark true h = record { more = λ x g. g; only = λ x g. or_left (s x) (eqb x n) g; here = h refl }
 
-  mark-goes : (n k : ℕ) (s s₀ : Set) (m : List ℕ) → suc k ≤ 16 → n < top → Begun n s s₀ → (l : Left Set) → Goes s₀ m l → Goes s m (next l (marking n (suc k)))
-  mark-goes n k s s₀ m deep low w (left (suc c) s' m' v) p = tt
-  mark-goes n k s s₀ m deep low w (left zero s' m' v) p = done
+  mark_goes : (n k : ℕ) (s s₀ : Set) (m : List ℕ) → suc k ≤ 16 → n < top → Begun n s s₀ → (l : Left Set) → Goes s₀ m l → Goes s m (next l (marking n (suc k)))
+  mark_goes n k s s₀ m deep low w (left (suc c) s' m' v) p = tt
+  mark_goes n k s s₀ m deep low w (left zero s' m' v) p = done
     where
       it : (x : ℕ) → eqb x n ≡ true → marked (set m' n (suc k)) x ≡ true
       it x e =
           let q : x ≡ n = eqb-true x n e in
           let h : n < length m' = omega (arith, p.long) in
-          rw (q, get_or-set_same m' n (suc k) 0 h) (set-is-mark k deep)
+          rw (q, get_or-set_same m' n (suc k) 0 h) (set_is_mark k deep)
 
       kept-mark : (x : ℕ) → marked m' x ≡ true → marked (set m' n (suc k)) x ≡ true
-      kept-mark x g = set-mark (λ y u. isMark u ≡ true) m' n (suc k) x g (set-is-mark k deep)
+      kept-mark x g = set-mark (λ y u. is_mark u ≡ true) m' n (suc k) x g (set_is_mark k deep)
 
       done : Synced s m s' (set m' n (suc k))
       done =
           record {
             long = length-set m' n (suc k) ∙ p.long;
-            flagged = λ x. set-mark (λ y u. isMark u ≡ true → s' y ≡ true) m' n (suc k) x (p.flagged x) (λ g. p.grows n w.here);
+            flagged = λ x. set-mark (λ y u. is_mark u ≡ true → s' y ≡ true) m' n (suc k) x (p.flagged x) (λ g. p.grows n w.here);
             new = λ x g. either ((s x || marked (set m' n (suc k)) x) ≡ true) (p.new x g)
                 (λ a. either ((s x || marked (set m' n (suc k)) x) ≡ true) (w.only x a) (or_left (s x) (marked (set m' n (suc k)) x)) (λ e. or_right (s x) (marked (set m' n (suc k)) x) (it x e)))
                 (λ a. or_right (s x) (marked (set m' n (suc k)) x) (kept-mark x a));
@@ -179,13 +179,13 @@ module _ (top : ℕ) where
     goes zero n s m v deep h f = tt
     goes (suc k) n s m v deep h f =
         entering tick get flag k n s m v (Goes s m) (λ q. unmoved s m h f) (λ e. tt)
-        (λ r e q. mark-goes n k s (ownOnce flag (get_or m n 0) n s) m deep (low n r e) (begun n s m f) (inside tick get flag k n s m v r)
-        (parts-go (kept tick get flag k) (λ x t m' u. goes k x t m' u (omega arith)) r.count r.first (ownOnce flag (get_or m n 0) n s) m (tick v) h
+        (λ r e q. mark_goes n k s (own_once flag (get_or m n 0) n s) m deep (low n r e) (begun n s m f) (inside tick get flag k n s m v r)
+        (parts_go (kept tick get flag k) (λ x t m' u. goes k x t m' u (omega arith)) r.count r.first (own_once flag (get_or m n 0) n s) m (tick v) h
         (λ y g. (begun n s m f).more y (f y g))))
 
     -- what the set is at the end, by the marks
-    as-marked : (first : List ℕ) (s : Set) (m : List ℕ) → Synced (λ x. false) first s m → (x : ℕ) → s x ≡ marked m x
-    as-marked first s m p x = go (s x) (marked m x) (p.new x) (p.flagged x)
+    as_marked : (first : List ℕ) (s : Set) (m : List ℕ) → Synced (λ x. false) first s m → (x : ℕ) → s x ≡ marked m x
+    as_marked first s m p x = go (s x) (marked m x) (p.new x) (p.flagged x)
       where
         go : (a b : Bool) → (a ≡ true → b ≡ true) → (b ≡ true → a ≡ true) → a ≡ b
         go true b f g = sym (f refl)
@@ -199,22 +199,22 @@ module _ (top : ℕ) where
         go : (c : ℕ) → c ≡ 0 → Goes (λ y. false) first (left c d m' w) → Agree flags get o (left c d m' w) → marked m x ≡ among x ns
         go zero z p a =
             let q : m ≡ m' = cc in
-            ap (λ (w : List ℕ). marked w x) q ∙ sym (as-marked first d m' p x) ∙ h d (so-went flags get a refl refl)
+            ap (λ (w : List ℕ). marked w x) q ∙ sym (as_marked first d m' p x) ∙ h d (so_went flags get a refl refl)
         go (suc c) z p a = absurd (omega arith)
 
     -- after a walk that refused nothing, from no mark at all: the marked records are those that the plain walk reached
-    pub marks-are : {S : Type 0} (own : ℕ → S → S) (blank : ℕ) → isMark blank ≡ false → (k n : ℕ) (b : S) (u : ℕ) {e : S} {m : List ℕ} {v : ℕ} → k ≤ 16
+    pub marks_are : {S : Type 0} (own : ℕ → S → S) (blank : ℕ) → is_mark blank ≡ false → (k n : ℕ) (b : S) (u : ℕ) {e : S} {m : List ℕ} {v : ℕ} → k ≤ 16
         → kept tick get own k n b (replicate top blank) u ≡ left 0 e m v → (x : ℕ) → marked m x ≡ among x (reached get k n)
-    marks-are own blank z k n b u deep h x =
+    marks_are own blank z k n b u deep h x =
         ended (through get flag k n (λ y. false)) x (reached get k n) (replicate top blank)
         (alike (λ y t. Unit) tick tick get own flag (λ y d f p. tt) k n b (λ y. false) (replicate top blank) u u tt)
-        (goes k n (λ y. false) (replicate top blank) u deep (length-replicate top blank) (λ y g. absurd (never (sym (no-mark y) ∙ g))))
-        (agrees flags get tick k n (λ y. false) (replicate top blank) u deep (none-marked flags get blank top (λ y. false) z))
-        (λ s g. ap (λ (t : Set). t x) (sym (joined get flag k n (λ y. false) s g)) ∙ all-flags (reached get k n) (λ y. false) x ∙ or-false (among x (reached get k n))) h
+        (goes k n (λ y. false) (replicate top blank) u deep (length-replicate top blank) (λ y g. absurd (never (sym (no_mark y) ∙ g))))
+        (agrees flags get tick k n (λ y. false) (replicate top blank) u deep (none_marked flags get blank top (λ y. false) z))
+        (λ s g. ap (λ (t : Set). t x) (sym (joined get flag k n (λ y. false) s g)) ∙ all_flags (reached get k n) (λ y. false) x ∙ or_false (among x (reached get k n))) h
       where
-        no-mark : (y : ℕ) → marked (replicate top blank) y ≡ false
-        no-mark y = at_first (λ mark. isMark mark ≡ false) blank top y z refl
+        no_mark : (y : ℕ) → marked (replicate top blank) y ≡ false
+        no_mark y = at_first (λ mark. is_mark mark ≡ false) blank top y z refl
 
-        or-false : (a : Bool) → (a || false) ≡ a
-        or-false true = refl
-        or-false false = refl
+        or_false : (a : Bool) → (a || false) ≡ a
+        or_false true = refl
+        or_false false = refl

@@ -19,19 +19,19 @@ abbrev pub skips : ℕ → ℕ → Bool
 skips mark levels = ltb 0 mark && leb mark levels
 
 -- whether it was walked through at all
-abbrev pub isMark : ℕ → Bool
-isMark mark = skips mark 16
+abbrev pub is_mark : ℕ → Bool
+is_mark mark = skips mark 16
 
-unfoldable pub partsKept : {S : Type 0} → (ℕ → S → List ℕ → ℕ → Left S) → ℕ → ℕ → S → List ℕ → ℕ → Left S
-partsKept part zero n b m v = left 0 b m v
-partsKept part (suc c) n b m v = next (part n b m v) (partsKept part c (n + 1))
+unfoldable pub parts_kept : {S : Type 0} → (ℕ → S → List ℕ → ℕ → Left S) → ℕ → ℕ → S → List ℕ → ℕ → Left S
+parts_kept part zero n b m v = left 0 b m v
+parts_kept part (suc c) n b m v = next (part n b m v) (parts_kept part c (n + 1))
 
-abbrev pub foundKept : {S : Type 0} → Option Parts → S → List ℕ → ℕ → (Parts → Left S) → Left S
-foundKept none b m v f = left 10 b m v
-foundKept (some r) b m v f = f r
+abbrev pub found_kept : {S : Type 0} → Option Parts → S → List ℕ → ℕ → (Parts → Left S) → Left S
+found_kept none b m v f = left 10 b m v
+found_kept (some r) b m v f = f r
 
-abbrev pub ownOnce : {S : Type 0} → (ℕ → S → S) → ℕ → ℕ → S → S
-ownOnce own mark n b = cond (isMark mark) b (own n b)
+abbrev pub own_once : {S : Type 0} → (ℕ → S → S) → ℕ → ℕ → S → S
+own_once own mark n b = cond (is_mark mark) b (own n b)
 
 -- behind the parts the mark is set
 abbrev pub marking : {S : Type 0} → ℕ → ℕ → S → List ℕ → ℕ → Left S
@@ -40,7 +40,7 @@ marking n levels b m v = left 0 b (set m n levels) v
 -- a record that is not skipped, its parts walked by `part`
 unfoldable pub walked : {S : Type 0} → (ℕ → Option Parts) → (ℕ → S → S) → (ℕ → S → List ℕ → ℕ → Left S) → ℕ → ℕ → S → List ℕ → ℕ → Left S
 walked get own part levels n b m v =
-    foundKept (get n) b m v (λ r. next (partsKept part r.count r.first (ownOnce own (get_or m n 0) n b) m v) (marking n levels))
+    found_kept (get n) b m v (λ r. next (parts_kept part r.count r.first (own_once own (get_or m n 0) n b) m v) (marking n levels))
 
 -- `tick` counts a record that is entered, good or bad, skipped or not
 unfoldable pub kept : {S : Type 0} → (ℕ → ℕ) → (ℕ → Option Parts) → (ℕ → S → S) → ℕ → ℕ → S → List ℕ → ℕ → Left S

@@ -6,16 +6,16 @@ use Rattle.tree_walk.specs.declared.Parts.{Parts}
 use Rattle.tree_walk.specs.Tree.{Out, refused, found, parts, through}
 
 module _ {S : Type 0} (get : ℕ → Option Parts) (own : ℕ → S → S) (n : ℕ) (b : S) where
-  pub level-first : through get own 0 n b ≡ refused 13
+  pub level_first : through get own 0 n b ≡ refused 13
   unfolding through
-  level-first = refl
+  level_first = refl
 
   abbrev at : ℕ → Option Parts → Out S
   at k o = found o (λ r. parts (through get own k) r.count r.first (own n b))
 
-  pub bad-next : (k : ℕ) → get n ≡ none → through get own (suc k) n b ≡ refused 10
+  pub bad_next : (k : ℕ) → get n ≡ none → through get own (suc k) n b ≡ refused 10
   unfolding through
-  bad-next k e = ap (at k) e
+  bad_next k e = ap (at k) e
 
   pub own_first : (k : ℕ) (r : Parts) → get n ≡ some r → through get own (suc k) n b ≡ parts (through get own k) r.count r.first (own n b)
   unfolding through

@@ -10,48 +10,48 @@ use Rattle.kinds.specs.declared.geometry.Span.{Span}
 use Rattle.kinds.specs.declared.geometry.Span.TheVariants.{Absent, Stretch}
 use Rattle.kinds.specs.declared.geometry.Judged.{Judged}
 use Rattle.kinds.specs.declared.geometry.Judged.TheVariants.{Good, Bad}
-use Rattle.store.specs.Records.{recordsLent, recordAt}
+use Rattle.store.specs.Records.{records_lent, record_at}
 use Rattle.store.specs.RecordLaws.{InTable, within}
-use Rattle.store.specs.Lists.{Rec, Pools, lent_of, parts_of, seen, recordWith}
+use Rattle.store.specs.Lists.{Rec, Pools, lent_of, parts_of, seen, record_with}
 use Rattle.tree_walk.specs.declared.Parts.{Parts}
 
 -- the parts of record n; where it has no such list there are none, and the next record would be the first
-abbrev pub partsFrom : ℕ → Option (ℕ × ℕ) → Parts
-partsFrom n none = record { first = n + 1; count = 0 }
-partsFrom n (some p) = record { first = p.0; count = p.1 }
+abbrev pub parts_from : ℕ → Option (ℕ × ℕ) → Parts
+parts_from n none = record { first = n + 1; count = 0 }
+parts_from n (some p) = record { first = p.0; count = p.1 }
 
 abbrev pub parts_in : ℕ → Option Rec → Option Parts
 parts_in n none = none
-parts_in n (some r) = some (partsFrom n r.parts)
+parts_in n (some r) = some (parts_from n r.parts)
 
 -- a walk's records, by an accessor of records with their lists
-unfoldable pub partsBy : (ℕ → Option Rec) → ℕ → Option Parts
-partsBy get n = parts_in n (get n)
+unfoldable pub parts_by : (ℕ → Option Rec) → ℕ → Option Parts
+parts_by get n = parts_in n (get n)
 
 -- ---- the same by a table and what is lent, with no word of a list looked at
-abbrev partsJudged : ℕ → Judged → Option Parts
-partsJudged n Bad = none
-partsJudged n (Good g) = some (partsFrom n (parts_of g.parts))
+abbrev parts_judged : ℕ → Judged → Option Parts
+parts_judged n Bad = none
+parts_judged n (Good g) = some (parts_from n (parts_of g.parts))
 
-unfoldable pub partsLent : List ℕ → Lent → ℕ → Option Parts
-partsLent table lent n = partsJudged n (recordAt table lent n)
+unfoldable pub parts_lent : List ℕ → Lent → ℕ → Option Parts
+parts_lent table lent n = parts_judged n (record_at table lent n)
 
-pub by-lent : (table : List ℕ) (P : Pools) → partsBy (recordWith table P) ≡ partsLent table (lent_of P)
-unfolding partsBy partsLent recordWith
-by-lent table P = λ i n. go n (recordAt table (lent_of P) n) i
+pub by_lent : (table : List ℕ) (P : Pools) → parts_by (record_with table P) ≡ parts_lent table (lent_of P)
+unfolding parts_by parts_lent record_with
+by_lent table P = λ i n. go n (record_at table (lent_of P) n) i
   where
-    go : (n : ℕ) (j : Judged) → parts_in n (seen P j) ≡ partsJudged n j
+    go : (n : ℕ) (j : Judged) → parts_in n (seen P j) ≡ parts_judged n j
     go n Bad = refl
     go n (Good g) = refl
 
 module _ (table : List ℕ) (lent : Lent) (n : ℕ) where
-  pub bad-parts : recordAt table lent n ≡ Bad → partsLent table lent n ≡ none
-  unfolding partsLent
-  bad-parts h = ap (partsJudged n) h
+  pub bad_parts : record_at table lent n ≡ Bad → parts_lent table lent n ≡ none
+  unfolding parts_lent
+  bad_parts h = ap (parts_judged n) h
 
-  pub good-parts : (g : Geometry) → recordAt table lent n ≡ Good g → partsLent table lent n ≡ some (partsFrom n (parts_of g.parts))
-  unfolding partsLent
-  good-parts g h = ap (partsJudged n) h
+  pub good_parts : (g : Geometry) → record_at table lent n ≡ Good g → parts_lent table lent n ≡ some (parts_from n (parts_of g.parts))
+  unfolding parts_lent
+  good_parts g h = ap (parts_judged n) h
 
   -- where a good record and its parts lie
   pub record Placed (r : Parts) : Type 0 where
@@ -59,17 +59,17 @@ module _ (table : List ℕ) (lent : Lent) (n : ℕ) where
     pub above : n < r.first
     pub below : r.first + r.count ≤ 4096
 
-  placed-span : (s : Span) → n < 4096 → InTable s n (recordsLent table) → Placed (partsFrom n (parts_of s))
-  placed-span Absent h t = record { number = h; above = omega arith; below = omega arith }
-  placed-span (Stretch start count) h t = record { number = h; above = t.0; below = t.2 }
+  placed_span : (s : Span) → n < 4096 → InTable s n (records_lent table) → Placed (parts_from n (parts_of s))
+  placed_span Absent h t = record { number = h; above = omega arith; below = omega arith }
+  placed_span (Stretch start count) h t = record { number = h; above = t.0; below = t.2 }
 
-  pub good_placed : (g : Geometry) → recordAt table lent n ≡ Good g → Placed (partsFrom n (parts_of g.parts))
-  good_placed g h = let w = within table lent n g h in placed-span g.parts w.usable-number w.parts
+  pub good_placed : (g : Geometry) → record_at table lent n ≡ Good g → Placed (parts_from n (parts_of g.parts))
+  good_placed g h = let w = within table lent n g h in placed_span g.parts w.usable-number w.parts
 
-  pub placed : (r : Parts) → partsLent table lent n ≡ some r → Placed r
-  unfolding partsLent
-  placed r e = go (recordAt table lent n) refl e
+  pub placed : (r : Parts) → parts_lent table lent n ≡ some r → Placed r
+  unfolding parts_lent
+  placed r e = go (record_at table lent n) refl e
     where
-      go : (j : Judged) → recordAt table lent n ≡ j → partsJudged n j ≡ some r → Placed r
+      go : (j : Judged) → record_at table lent n ≡ j → parts_judged n j ≡ some r → Placed r
       go Bad q e = absurd (never (cc))
-      go (Good g) q e = let p : partsFrom n (parts_of g.parts) ≡ r = cc in rw p at (good_placed g q)
+      go (Good g) q e = let p : parts_from n (parts_of g.parts) ≡ r = cc in rw p at (good_placed g q)

@@ -11,8 +11,8 @@ use Rattle.tree_walk.specs.Tree.{Out, refused, went, then, found, parts, through
 use Rattle.tree_walk.specs.Levels.{more-levels}
 use Rattle.tree_walk.specs.Widen.{Growing}
 use Rattle.tree_walk.specs.Cases.{inside, entering}
-use Rattle.tree_walk.specs.Again.{passed, own-moves-none}
-use Rattle.tree_walk.specs.Memory.{Left, left, next, skips, isMark, partsKept, ownOnce, marking, kept}
+use Rattle.tree_walk.specs.Again.{passed, own_moves_none}
+use Rattle.tree_walk.specs.Memory.{Left, left, next, skips, is_mark, parts_kept, own_once, marking, kept}
 
 -- a mark after one was set is the one set or the one before
 pub set-mark : (P : ℕ → ℕ → Type 0) (m : List ℕ) (n v x : ℕ) → P x (get_or m x 0) → P n v → P x (get_or (set m n v) x 0)
@@ -29,19 +29,19 @@ at_first P blank (suc k) zero p q = p
 at_first P blank (suc k) (suc n) p q = at_first P blank k n p q
 
 -- a mark that is skipped, or that was set, is one
-skip-mark : (mark levels : ℕ) → levels ≤ 16 → skips mark levels ≡ true → isMark mark ≡ true
-skip-mark mark levels deep h =
+skip_mark : (mark levels : ℕ) → levels ≤ 16 → skips mark levels ≡ true → is_mark mark ≡ true
+skip_mark mark levels deep h =
     let t = both (ltb 0 mark) (leb mark levels) h in
     let low = ltb-true 0 mark t.0 in
     rw (lt-ltb 0 mark low, le-leb mark 16 (omega (arith, leb-true mark levels t.1)))
 
-pub set-is-mark : (k : ℕ) → suc k ≤ 16 → isMark (suc k) ≡ true
-set-is-mark k deep = rw (lt-ltb 0 (suc k) (omega arith), le-leb (suc k) 16 deep)
+pub set_is_mark : (k : ℕ) → suc k ≤ 16 → is_mark (suc k) ≡ true
+set_is_mark k deep = rw (lt-ltb 0 (suc k) (omega arith), le-leb (suc k) 16 deep)
 
 module _ {S : Type 0} {own : ℕ → S → S} (G : Growing S own) (get : ℕ → Option Parts) where
   -- if it is a mark: from any value above b, record n with so many levels left is refused nothing and moves nothing
   abbrev Clear : S → ℕ → ℕ → Type 0
-  Clear b n mark = isMark mark ≡ true → (c : S) → G.Above b c → through get own mark n c ≡ went c
+  Clear b n mark = is_mark mark ≡ true → (c : S) → G.Above b c → through get own mark n c ≡ went c
 
   -- every mark says so
   abbrev pub Marked : List ℕ → S → Type 0
@@ -50,8 +50,8 @@ module _ {S : Type 0} {own : ℕ → S → S} (G : Growing S own) (get : ℕ →
   clear_above : (b e : S) (n mark : ℕ) → G.Above b e → Clear b n mark → Clear e n mark
   clear_above b e n mark a h t c u = h t c (G.join a u)
 
-  marked-above : (m : List ℕ) (b e : S) → G.Above b e → Marked m b → Marked m e
-  marked-above m b e a h n = clear_above b e n (get_or m n 0) a (h n)
+  marked_above : (m : List ℕ) (b e : S) → G.Above b e → Marked m b → Marked m e
+  marked_above m b e a h n = clear_above b e n (get_or m n 0) a (h n)
 
   -- both walks are refused with the same number; or neither is, and they give the same value, and the marks stay true
   pub data Agree : Out S → Left S → Type 0 where
@@ -63,13 +63,13 @@ module _ {S : Type 0} {own : ℕ → S → S} (G : Growing S own) (get : ℕ →
   next-agrees f g refuse h = refuse
   next-agrees f g (go_on {b} {m} {v} k) h = h b m v k
 
-  parts-agree : (p : ℕ → S → Out S) (q : ℕ → S → List ℕ → ℕ → Left S)
+  parts_agree : (p : ℕ → S → Out S) (q : ℕ → S → List ℕ → ℕ → Left S)
       → ((n : ℕ) (b : S) (m : List ℕ) (v : ℕ) → Marked m b → Agree (p n b) (q n b m v))
-      → (c n : ℕ) (b : S) (m : List ℕ) (v : ℕ) → Marked m b → Agree (parts p c n b) (partsKept q c n b m v)
-  unfolding parts partsKept
-  parts-agree p q h zero n b m v k = go_on k
-  parts-agree p q h (suc c) n b m v k =
-      next-agrees (parts p c (n + 1)) (partsKept q c (n + 1)) (h n b m v k) (λ e m' u k'. parts-agree p q h c (n + 1) e m' u k')
+      → (c n : ℕ) (b : S) (m : List ℕ) (v : ℕ) → Marked m b → Agree (parts p c n b) (parts_kept q c n b m v)
+  unfolding parts parts_kept
+  parts_agree p q h zero n b m v k = go_on k
+  parts_agree p q h (suc c) n b m v k =
+      next-agrees (parts p c (n + 1)) (parts_kept q c (n + 1)) (h n b m v k) (λ e m' u k'. parts_agree p q h c (n + 1) e m' u k')
 
   -- a mark is set behind a walk that went through
   mark-agrees : (n k : ℕ) {o : Out S} {l : Left S} → Agree o l → ((e : S) → o ≡ went e → (c : S) → G.Above e c → through get own (suc k) n c ≡ went c) → Agree o (next l (marking n (suc k)))
@@ -77,19 +77,19 @@ module _ {S : Type 0} {own : ℕ → S → S} (G : Growing S own) (get : ℕ →
   mark-agrees n k (go_on {b} {m} marked) h =
       go_on (λ x. set-mark (λ y v. Clear b y v) m n (suc k) x (marked x) (λ t. h b refl))
 
-  skip-agrees : (k n : ℕ) (b : S) (m : List ℕ) → suc k ≤ 16 → Marked m b → skips (get_or m n 0) (suc k) ≡ true → through get own (suc k) n b ≡ went b
-  skip-agrees k n b m deep marked h = go (get_or m n 0) (marked n) h
+  skip_agrees : (k n : ℕ) (b : S) (m : List ℕ) → suc k ≤ 16 → Marked m b → skips (get_or m n 0) (suc k) ≡ true → through get own (suc k) n b ≡ went b
+  skip_agrees k n b m deep marked h = go (get_or m n 0) (marked n) h
     where
       go : (mark : ℕ) → Clear b n mark → skips mark (suc k) ≡ true → through get own (suc k) n b ≡ went b
       go mark c h =
           more-levels get own mark (suc k) n b b (leb-true mark (suc k) (both (ltb 0 mark) (leb mark (suc k)) h).1)
-          (c (skip-mark mark (suc k) deep h) b (G.same b))
+          (c (skip_mark mark (suc k) deep h) b (G.same b))
 
-  own-once : (n : ℕ) (b : S) (mark : ℕ) → Clear b n mark → ownOnce own mark n b ≡ own n b
-  own-once n b mark c = go (isMark mark) refl
+  own_once_lem : (n : ℕ) (b : S) (mark : ℕ) → Clear b n mark → own_once own mark n b ≡ own n b
+  own_once_lem n b mark c = go (is_mark mark) refl
     where
-      go : (t : Bool) → isMark mark ≡ t → cond t b (own n b) ≡ own n b
-      go true e = sym (own-moves-none G get mark n b (c e b (G.same b)))
+      go : (t : Bool) → is_mark mark ≡ t → cond t b (own n b) ≡ own n b
+      go true e = sym (own_moves_none G get mark n b (c e b (G.same b)))
       go false e = refl
 
   pub agrees : (tick : ℕ → ℕ) (k n : ℕ) (b : S) (m : List ℕ) (v : ℕ) → k ≤ 16 → Marked m b → Agree (through get own k n b) (kept tick get own k n b m v)
@@ -97,25 +97,25 @@ module _ {S : Type 0} {own : ℕ → S → S} (G : Growing S own) (get : ℕ →
   agrees tick zero n b m v deep marked = refuse
   agrees tick (suc k) n b m v deep marked =
       entering tick get own k n b m v (Agree (through get own (suc k) n b))
-      (λ s. subst (λ (o : Out S). Agree o (left 0 b m (tick v))) (sym (skip-agrees k n b m deep marked s)) (go_on marked))
+      (λ s. subst (λ (o : Out S). Agree o (left 0 b m (tick v))) (sym (skip_agrees k n b m deep marked s)) (go_on marked))
       (λ e. subst (λ (o : Out S). Agree o (left 10 b m (tick v))) (sym (ap plain e)) refuse)
       (λ r e s. mark-agrees n k (subst (λ (o : Out S). Agree o (inside tick get own k n b m v r)) (sym (ap plain e))
-      (rw (own-once n b (get_or m n 0) (marked n))
-      (parts-agree (through get own k) (kept tick get own k) (λ x c m' u. agrees tick k x c m' u (omega arith)) r.count r.first (own n b) m (tick v) (marked-above m b (own n b) (G.grows n b) marked))))
+      (rw (own_once_lem n b (get_or m n 0) (marked n))
+      (parts_agree (through get own k) (kept tick get own k) (λ x c m' u. agrees tick k x c m' u (omega arith)) r.count r.first (own n b) m (tick v) (marked_above m b (own n b) (G.grows n b) marked))))
       (λ c q. (passed G get (suc k) n b c q).later))
     where
       plain : Option Parts → Out S
       plain o = found o (λ r. parts (through get own k) r.count r.first (own n b))
 
   -- ---- the plain walk's outcome by what the other left
-  pub so-refused : {o : Out S} {l : Left S} {c : ℕ} {b : S} {m : List ℕ} {v : ℕ} → Agree o l → l ≡ left c b m v → (c ≡ 0 → ⊥) → o ≡ refused c
-  so-refused refuse e z = cc
-  so-refused {c} (go_on k) e z = let q : c ≡ 0 = cc in absurd (z q)
+  pub so_refused : {o : Out S} {l : Left S} {c : ℕ} {b : S} {m : List ℕ} {v : ℕ} → Agree o l → l ≡ left c b m v → (c ≡ 0 → ⊥) → o ≡ refused c
+  so_refused refuse e z = cc
+  so_refused {c} (go_on k) e z = let q : c ≡ 0 = cc in absurd (z q)
 
-  pub so-went : {o : Out S} {l : Left S} {c : ℕ} {b : S} {m : List ℕ} {v : ℕ} → Agree o l → l ≡ left c b m v → c ≡ 0 → o ≡ went b
-  so-went (refuse {c}) e z = let q : suc c ≡ 0 = cc in absurd (omega arith)
-  so-went (go_on k) e z = cc
+  pub so_went : {o : Out S} {l : Left S} {c : ℕ} {b : S} {m : List ℕ} {v : ℕ} → Agree o l → l ≡ left c b m v → c ≡ 0 → o ≡ went b
+  so_went (refuse {c}) e z = let q : suc c ≡ 0 = cc in absurd (omega arith)
+  so_went (go_on k) e z = cc
 
   -- no mark is set at first
-  pub none-marked : (blank k : ℕ) (b : S) → isMark blank ≡ false → Marked (replicate k blank) b
-  none-marked blank k b z n = at_first (Clear b n) blank k n (λ t. absurd (never (sym z ∙ t))) (λ t. absurd (never t))
+  pub none_marked : (blank k : ℕ) (b : S) → is_mark blank ≡ false → Marked (replicate k blank) b
+  none_marked blank k b z n = at_first (Clear b n) blank k n (λ t. absurd (never (sym z ∙ t))) (λ t. absurd (never t))

@@ -7,7 +7,7 @@ use Rattle.std.proofs.Math.Option.{Option, none, some}
 use Prim.Native.Nat.{ℕ, zero, suc, ◌+◌, ◌-◌, ◌<◌, ◌≤◌}
 use native.Mathlib.Omega.{arith}
 use Rattle.tree_walk.specs.declared.Parts.{Parts}
-use Rattle.tree_walk.specs.Memory.{Left, left, next, skips, partsKept, foundKept, ownOnce, marking, walked, kept}
+use Rattle.tree_walk.specs.Memory.{Left, left, next, skips, parts_kept, found_kept, own_once, marking, walked, kept}
 
 -- ---- a record is entered
 module _ {S : Type 0} (tick : ℕ → ℕ) (get : ℕ → Option Parts) (own : ℕ → S → S) (levels n : ℕ) (b : S) (m : List ℕ) (v : ℕ) where
@@ -16,10 +16,10 @@ module _ {S : Type 0} (tick : ℕ → ℕ) (get : ℕ → Option Parts) (own : �
   at-depth h = ap (λ (k : ℕ). kept tick get own k n b m v) h
 
   module _ (h : levels ≡ 0 → ⊥) where
-    abbrev byMark : Bool → Left S
-    byMark t = cond t (left 0 b m (tick v)) (walked get own (kept tick get own (levels - 1)) levels n b m (tick v))
+    abbrev by_mark : Bool → Left S
+    by_mark t = cond t (left 0 b m (tick v)) (walked get own (kept tick get own (levels - 1)) levels n b m (tick v))
 
-    entered : kept tick get own levels n b m v ≡ byMark (skips (get_or m n 0) levels)
+    entered : kept tick get own levels n b m v ≡ by_mark (skips (get_or m n 0) levels)
     unfolding kept
     entered = go levels h
       where
@@ -28,36 +28,36 @@ module _ {S : Type 0} (tick : ℕ → ℕ) (get : ℕ → Option Parts) (own : �
         go zero h = absurd (h refl)
         go (suc k) h = let e : suc k - 1 ≡ k = omega arith in rw e
 
-    pub at-skip : skips (get_or m n 0) levels ≡ true → kept tick get own levels n b m v ≡ left 0 b m (tick v)
-    at-skip f = entered ∙ ap byMark f
+    pub at_skip : skips (get_or m n 0) levels ≡ true → kept tick get own levels n b m v ≡ left 0 b m (tick v)
+    at_skip f = entered ∙ ap by_mark f
 
-    pub at-record : skips (get_or m n 0) levels ≡ false
+    pub at_record : skips (get_or m n 0) levels ≡ false
         → kept tick get own levels n b m v ≡ walked get own (kept tick get own (levels - 1)) levels n b m (tick v)
-    at-record f = entered ∙ ap byMark f
+    at_record f = entered ∙ ap by_mark f
 
 -- ---- a record that is not skipped
 module _ {S : Type 0} (get : ℕ → Option Parts) (own : ℕ → S → S) (part : ℕ → S → List ℕ → ℕ → Left S) (levels n : ℕ) (b : S) (m : List ℕ) (v : ℕ) where
-  abbrev inRecord : Option Parts → Left S
-  inRecord o = foundKept o b m v (λ r. next (partsKept part r.count r.first (ownOnce own (get_or m n 0) n b) m v) (marking n levels))
+  abbrev in_record : Option Parts → Left S
+  in_record o = found_kept o b m v (λ r. next (parts_kept part r.count r.first (own_once own (get_or m n 0) n b) m v) (marking n levels))
 
-  pub in-bad : get n ≡ none → walked get own part levels n b m v ≡ left 10 b m v
+  pub in_bad : get n ≡ none → walked get own part levels n b m v ≡ left 10 b m v
   unfolding walked
-  in-bad e = ap inRecord e
+  in_bad e = ap in_record e
 
-  pub in-good : (r : Parts) → get n ≡ some r → {s : S} → s ≡ ownOnce own (get_or m n 0) n b
-      → walked get own part levels n b m v ≡ next (partsKept part r.count r.first s m v) (marking n levels)
+  pub in_good : (r : Parts) → get n ≡ some r → {s : S} → s ≡ own_once own (get_or m n 0) n b
+      → walked get own part levels n b m v ≡ next (parts_kept part r.count r.first s m v) (marking n levels)
   unfolding walked
-  in-good r e o = ap inRecord e ∙ rw (sym o)
+  in_good r e o = ap in_record e ∙ rw (sym o)
 
 -- ---- the turns of the loop over the parts: X is what the whole gives, F what is done behind the parts
 module _ {S : Type 0} {X : Left S} (K : ℕ → S → List ℕ → ℕ → Left S) (F : S → List ℕ → ℕ → Left S) (size from i : ℕ) (b : S) (m : List ℕ) (v : ℕ)
-    (x : X ≡ next (partsKept K (size - i) (from + i) b m v) F) where
+    (x : X ≡ next (parts_kept K (size - i) (from + i) b m v) F) where
   abbrev rest : S → List ℕ → ℕ → Left S
-  rest e m' u = next (partsKept K (size - (i + 1)) (from + (i + 1)) e m' u) F
+  rest e m' u = next (parts_kept K (size - (i + 1)) (from + (i + 1)) e m' u) F
 
-  one_more : i < size → partsKept K (size - i) (from + i) b m v ≡ next (K (from + i) b m v) (partsKept K (size - (i + 1)) (from + (i + 1)))
-  unfolding partsKept
-  one_more h =
+  one_more_lem : i < size → parts_kept K (size - i) (from + i) b m v ≡ next (K (from + i) b m v) (parts_kept K (size - (i + 1)) (from + (i + 1)))
+  unfolding parts_kept
+  one_more_lem h =
       let e : size - i ≡ suc (size - (i + 1)) = omega arith in
       let f : from + i + 1 ≡ from + (i + 1) = omega arith in
       rw (e, f)
@@ -66,20 +66,20 @@ module _ {S : Type 0} {X : Left S} (K : ℕ → S → List ℕ → ℕ → Left 
   next-next (left zero e m' u) f g = refl
   next-next (left (suc c) e m' u) f g = refl
 
-  in-turn : i < size → X ≡ next (K (from + i) b m v) rest
-  in-turn h = x ∙ ap (λ (l : Left S). next l F) (one_more h) ∙ next-next (K (from + i) b m v) (partsKept K (size - (i + 1)) (from + (i + 1))) F
+  in_turn : i < size → X ≡ next (K (from + i) b m v) rest
+  in_turn h = x ∙ ap (λ (l : Left S). next l F) (one_more_lem h) ∙ next-next (K (from + i) b m v) (parts_kept K (size - (i + 1)) (from + (i + 1))) F
 
   module _ {c : ℕ} {e : S} {m' : List ℕ} {u : ℕ} (h : i < size) (k : K (from + i) b m v ≡ left c e m' u) where
-    pub went_on : c ≡ 0 → X ≡ next (partsKept K (size - (i + 1)) (from + (i + 1)) e m' u) F
-    went_on z = in-turn h ∙ ap (λ (l : Left S). next l rest) (k ∙ ap (λ (w : ℕ). left w e m' u) z)
+    pub went_on : c ≡ 0 → X ≡ next (parts_kept K (size - (i + 1)) (from + (i + 1)) e m' u) F
+    went_on z = in_turn h ∙ ap (λ (l : Left S). next l rest) (k ∙ ap (λ (w : ℕ). left w e m' u) z)
 
-    pub broke-off : (c ≡ 0 → ⊥) → X ≡ left c e m' u
-    broke-off z = in-turn h ∙ ap (λ (l : Left S). next l rest) k ∙ stays c z
+    pub broke_off : (c ≡ 0 → ⊥) → X ≡ left c e m' u
+    broke_off z = in_turn h ∙ ap (λ (l : Left S). next l rest) k ∙ stays c z
       where
         stays : (c : ℕ) → (c ≡ 0 → ⊥) → next (left c e m' u) rest ≡ left c e m' u
         stays zero z = absurd (z refl)
         stays (suc c) z = refl
 
   pub came-through : size ≤ i → X ≡ F b m v
-  unfolding partsKept
+  unfolding parts_kept
   came-through h = let e : size - i ≡ 0 = omega arith in x ∙ rw e

@@ -2,7 +2,7 @@
 ghost use Rattle.std.specs.Prelude.{◌≡◌, ◌<◌};
 ghost use Rattle.tree_walk.specs.Memory.{skips};
 ghost use Rattle.store.specs.Lists.{parts_of};
-ghost use Rattle.tree_walk.specs.Records.{partsFrom};
+ghost use Rattle.tree_walk.specs.Records.{parts_from};
 
 use kinds::geometry::Span;
 use kinds::usable;
@@ -24,7 +24,7 @@ pub const NONE: u16 = 17;
 // The parts of record n. Without a list there are none.
 pub fn parts_of(s: Span, n: usize) -> Parts
     requires { n < 4096 }
-    ensures { result ≡ partsFrom n (parts_of s) }
+    ensures { result ≡ parts_from n (parts_of s) }
 {
     match s {
         Span::Absent => Parts {

@@ -2,8 +2,8 @@
 ghost use Rattle.std.specs.Prelude.{◌≡◌, ◌≤◌, length};
 ghost use Rattle.laws.specs.Script.{out, run};
 ghost use Rattle.log.specs.Log.{events};
-ghost use Rattle.coords.specs.Seen.{coordsIn};
-ghost use Rattle.lines.specs.Lines.{triangleAt, trianglesS, triangleS, tinS};
+ghost use Rattle.coords.specs.Seen.{coords_in};
+ghost use Rattle.lines.specs.Lines.{triangle_at, triangles_s, triangle_s, tin_s};
 
 use coords::Seen;
 use kinds::answer::Answer;
@@ -27,8 +27,8 @@ fn read_triangle_at(
     idx: u32,
 ) -> Answer
     requires { length xy.now ≤ 131072 }
-    ensures { let C = coordsIn seen xy.now z.now m.now t.now tm.now in
-        run (events feature) (triangleAt C tagged before end idx) log.old count ≡ out result.number result.count log.new }
+    ensures { let C = coords_in seen xy.now z.now m.now t.now tm.now in
+        run (events feature) (triangle_at C tagged before end idx) log.old count ≡ out result.number result.count log.new }
 {
     let b = log::say(
         log,
@@ -67,8 +67,8 @@ fn read_triangles(
     tagged: bool,
 ) -> Answer
     requires { (length xy.now ≤ 131072) × (length ends.now ≤ 65536) }
-    ensures { let C = coordsIn seen xy.now z.now m.now t.now tm.now in
-        run (events feature) (trianglesS C ends.now tagged 0 0) log.old count ≡ out result.number result.count log.new }
+    ensures { let C = coords_in seen xy.now z.now m.now t.now tm.now in
+        run (events feature) (triangles_s C ends.now tagged 0 0) log.old count ≡ out result.number result.count log.new }
 {
     let mut said = count;
     let mut before: u32 = 0;
@@ -107,8 +107,8 @@ pub fn read_triangle(
     idx: u32,
 ) -> Answer
     requires { (length xy.now ≤ 131072) × (length ends.now ≤ 65536) }
-    ensures { let C = coordsIn seen xy.now z.now m.now t.now tm.now in
-        run (events feature) (triangleS C ends.now tagged idx) log.old count ≡ out result.number result.count log.new }
+    ensures { let C = coords_in seen xy.now z.now m.now t.now tm.now in
+        run (events feature) (triangle_s C ends.now tagged idx) log.old count ≡ out result.number result.count log.new }
 {
     if lines::nothing_there(seen.xy, ends.len()) {
         return Answer {
@@ -140,8 +140,8 @@ pub fn read_tin(
     idx: u32,
 ) -> Answer
     requires { (length xy.now ≤ 131072) × (length ends.now ≤ 65536) }
-    ensures { let C = coordsIn seen xy.now z.now m.now t.now tm.now in
-        run (events feature) (tinS C ends.now idx) log.old count ≡ out result.number result.count log.new }
+    ensures { let C = coords_in seen xy.now z.now m.now t.now tm.now in
+        run (events feature) (tin_s C ends.now idx) log.old count ≡ out result.number result.count log.new }
 {
     let size = lines::stretches(ends.len());
     let b = log::say(

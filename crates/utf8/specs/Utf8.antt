@@ -91,21 +91,21 @@ begins (range ∷ row) [] = false
 begins (range ∷ row) (b ∷ bytes) = has range b && begins row bytes
 
 -- how many bytes the character at the start of a list has, 0 where none stands there
-unfoldable pub charLength : List ℕ → ℕ
-charLength [] = 0
-charLength (b ∷ bytes) = cond (begins (drop 1 (row_of b)) bytes) (length (row_of b)) 0
+unfoldable pub char_length : List ℕ → ℕ
+char_length [] = 0
+char_length (b ∷ bytes) = cond (begins (drop 1 (row_of b)) bytes) (length (row_of b)) 0
 
 -- how many bytes the characters at the start of a list have, of which at most `most` are taken
 unfoldable pub run : ℕ → List ℕ → ℕ
 run zero bytes = 0
-run (suc most) bytes = cond (eqb (charLength bytes) 0) 0 (charLength bytes + run most (drop (charLength bytes) bytes))
+run (suc most) bytes = cond (eqb (char_length bytes) 0) 0 (char_length bytes + run most (drop (char_length bytes) bytes))
 
 -- the place of the first byte that begins no character, or the length where there is none: a list has no more characters than bytes
-unfoldable pub firstBad : List ℕ → ℕ
-firstBad bytes = run (length bytes) bytes
+unfoldable pub first_bad : List ℕ → ℕ
+first_bad bytes = run (length bytes) bytes
 
-unfoldable pub isUtf8 : List ℕ → Bool
-isUtf8 bytes = eqb (firstBad bytes) (length bytes)
+unfoldable pub is_utf8 : List ℕ → Bool
+is_utf8 bytes = eqb (first_bad bytes) (length bytes)
 
 -- How the code goes through a row: its second range, and then tails. A row with no second range is never asked for one.
 

@@ -1,6 +1,6 @@
 // UTF-8 as RFC 3629 has it.
 ghost use Rattle.std.specs.Prelude.{◌≡◌, ◌≤◌, ◌<◌, ◌+◌, length, drop};
-ghost use Rattle.utf8.specs.Utf8.{◌‥◌, has, tail, tails, second, row_of, begins, charLength, BadIs};
+ghost use Rattle.utf8.specs.Utf8.{◌‥◌, has, tail, tails, second, row_of, begins, char_length, BadIs};
 
 // Where bytes cease to be text.
 #[derive(Drop)]
@@ -32,7 +32,7 @@ pub fn first_bad(bytes: &[u8]) -> Bad
 // How many bytes the character at a place has, 0 where none begins there.
 fn char_length(bytes: &[u8], at: usize) -> usize
     requires { at < length bytes.now }
-    ensures { result ≡ charLength (drop at bytes.now) }
+    ensures { result ≡ char_length (drop at bytes.now) }
 {
     let lead = bytes[at];
     let len = row_length(lead);

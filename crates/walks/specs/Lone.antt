@@ -13,6 +13,6 @@ abbrev pub LonePart : Flags → Role → List ℕ → ℕ → ℕ → Lone → T
 LonePart F role table lent n (Alone start count) = (role ≡ AsPolygon) × (multi F ≡ false) × LoneList table lent n start count
 LonePart F role table lent n Other = Unit
 
-pub plain-part : (F : Flags) (role : Role) (table : List ℕ) (lent n : ℕ) (part : Lone) → role ≡ AsPolygon → multi F ≡ false → LoneAt table lent n part → LonePart F role table lent n part
-plain-part F role table lent n (Alone start count) polygon plain h = (polygon, plain, h)
-plain-part F role table lent n Other polygon plain h = tt
+pub plain_part : (F : Flags) (role : Role) (table : List ℕ) (lent n : ℕ) (part : Lone) → role ≡ AsPolygon → multi F ≡ false → LoneAt table lent n part → LonePart F role table lent n part
+plain_part F role table lent n (Alone start count) polygon plain h = (polygon, plain, h)
+plain_part F role table lent n Other polygon plain h = tt

@@ -8,8 +8,8 @@ use Rattle.walks.specs.declared.walk.Walk.{Walk}
 use Rattle.walks.specs.declared.walk.Walk.TheVariants.{Own, Parts, Refused}
 
 -- the type rules of read_geometry_n, and of read_curve
-unfoldable pub walkOf : ℕ → ℕ → Walk
-walkOf type stored =
+unfoldable pub walk_of : ℕ → ℕ → Walk
+walk_of type stored =
     cond (eqb type 1) (Own Point)
     (cond (eqb type 2) (Own (Line 2 true))
     (cond (eqb type 3) (Own (Polygon true))
@@ -23,18 +23,18 @@ walkOf type stored =
     (cond (eqb type 17) (Own Triangle)
     (Refused 3)))))))))))
 
-unfoldable pub curveWalk : ℕ → ℕ → Walk
-curveWalk above kind =
+unfoldable pub curve_walk : ℕ → ℕ → Walk
+curve_walk above kind =
     cond (eqb kind 2) (Own (Line 2 false))
     (cond (eqb kind 8) (Own (Line 8 false))
     (cond (eqb kind 9 && not (eqb above 9)) (Parts 9 (Curve kind))
     (cond (eqb kind 3 && eqb above 12) (Own (Polygon true))
     (cond (eqb kind 10 && eqb above 12) (Parts 10 (Curve kind)) (Refused 4)))))
 
-abbrev pub walkIn : Role → ℕ → Walk
-walkIn AnyGeometry kind = walkOf kind kind
-walkIn AsPolygon kind = Own (Polygon false)
-walkIn (Curve above) kind = curveWalk above kind
+abbrev pub walk_in : Role → ℕ → Walk
+walk_in AnyGeometry kind = walk_of kind kind
+walk_in AsPolygon kind = Own (Polygon false)
+walk_in (Curve above) kind = curve_walk above kind
 
 abbrev pub Typed : Walk → Type 0
 Typed (Own own) = OwnTyped own

@@ -1,6 +1,6 @@
 // Which walk a record takes, by its type and by what it is a part of.
 ghost use Rattle.std.specs.Prelude.{◌≡◌};
-ghost use Rattle.walks.specs.Walks.{walkOf, curveWalk, walkIn};
+ghost use Rattle.walks.specs.Walks.{walk_of, curve_walk, walk_in};
 
 use kinds::{geometry_type, refusal};
 use own_lists::Own;
@@ -24,7 +24,7 @@ pub enum Walk {
 
 // The walk of a record under a type: the type rules of read_geometry_n. A curve's parts go by the type that is stored.
 pub fn walk_of(kind: u8, stored: u8) -> Walk
-    ensures { result ≡ walkOf kind stored }
+    ensures { result ≡ walk_of kind stored }
 {
     match kind {
         geometry_type::POINT => Walk::Own(Own::Point),
@@ -66,7 +66,7 @@ pub fn walk_of(kind: u8, stored: u8) -> Walk
 
 // The walk of a curve's part: the type rules of read_curve.
 fn curve_walk(above: u8, kind: u8) -> Walk
-    ensures { result ≡ curveWalk above kind }
+    ensures { result ≡ curve_walk above kind }
 {
     match kind {
         geometry_type::LINE_STRING => Walk::Own(Own::Line {
@@ -110,7 +110,7 @@ fn curve_walk(above: u8, kind: u8) -> Walk
 
 // The walk of a part in its role.
 pub fn walk_in(role: Role, kind: u8) -> Walk
-    ensures { result ≡ walkIn role kind }
+    ensures { result ≡ walk_in role kind }
 {
     match role {
         Role::Geometry => walk_of(kind, kind),

@@ -1,7 +1,7 @@
 // The two byte orders, and the numbers of a field in either.
 ghost use Rattle.std.specs.Prelude.{◌≡◌, ◌+◌, ◌≤◌, ◌<◌, length};
 ghost use Rattle.laws.specs.Bytes.{word_at};
-ghost use Rattle.wkb.specs.Order.{bigAt, value_at};
+ghost use Rattle.wkb.specs.Order.{big_at, value_at};
 
 // How a geometry's numbers lie in bytes.
 #[derive(Drop)]
@@ -20,7 +20,7 @@ fn wide(b: u8) -> u32
 
 fn u32_big_at(s: &[u8], at: usize) -> u32
     requires { at + 4 ≤ length s.now }
-    ensures { result ≡ bigAt 4 s.now at }
+    ensures { result ≡ big_at 4 s.now at }
 {
     wide(s[at + 3]) + 256 * (wide(s[at + 2]) + 256 * (wide(s[at + 1]) + 256 * wide(s[at])))
 }
@@ -33,7 +33,7 @@ fn widen(v: u32) -> u64
 
 fn u64_big_at(s: &[u8], at: usize) -> u64
     requires { at + 8 ≤ length s.now }
-    ensures { result ≡ bigAt 8 s.now at }
+    ensures { result ≡ big_at 8 s.now at }
 {
     widen(u32_big_at(s, at + 4)) + 4294967296 * widen(u32_big_at(s, at))
 }

@@ -2,7 +2,7 @@
 ghost use Rattle.std.specs.Prelude.{◌≡◌, eqb, length};
 ghost use Rattle.kinds.specs.declared.event.Event.{Event as Flat};
 ghost use Rattle.kinds.specs.Event.{WellFormed};
-ghost use Rattle.log.specs.Log.{heard, featureIn};
+ghost use Rattle.log.specs.Log.{heard, feature_in};
 ghost use Rattle.wkb_events.specs.Told.{SortedOf, ToldOf};
 
 use kinds::event::Event;
@@ -60,7 +60,7 @@ fn sorted(own: bool, e: Event) -> Told
 // A record that is heard as an event.
 fn event_told(bytes: &[u8], feature: u32) -> Told
     requires { length bytes.now ≡ 64 }
-    ensures { (e : Flat) → heard bytes.now ≡ WellFormed e → SortedOf (eqb (featureIn bytes.now) feature) e result }
+    ensures { (e : Flat) → heard bytes.now ≡ WellFormed e → SortedOf (eqb (feature_in bytes.now) feature) e result }
 {
     let own = log::feature_in(bytes) == feature;
     sorted(own, log::event_in(bytes))

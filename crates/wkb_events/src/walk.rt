@@ -2,7 +2,7 @@
 ghost use Rattle.std.specs.Prelude.{◌≡◌, Bool, ℕ, ◌+◌, ◌-◌, ◌≤◌, ◌<◌};
 ghost use Rattle.nesting.specs.Events.{GeometryType, begin, end, pair};
 ghost use Rattle.nesting.specs.Machine.{number};
-ghost use Rattle.wkb_events.specs.Walk.{Moved, beginLong, pairsOn, started};
+ghost use Rattle.wkb_events.specs.Walk.{Moved, begin_long, pairs_on, started};
 
 use kinds::geometry_type;
 use nesting::{Rules, opens};
@@ -36,7 +36,7 @@ fn greater(a: usize, b: usize) -> usize
 
 // How many bytes a begin comes to: a ring has no order mark and no type, a Point no count. `bare`: a line is a ring.
 fn begin_length(kind: u8, bare: bool) -> usize
-    ensures long { (type : GeometryType) → kind ≡ number type → result ≡ beginLong type bare }
+    ensures long { (type : GeometryType) → kind ≡ number type → result ≡ begin_long type bare }
     ensures short { result ≤ 9 }
 {
     if kind == geometry_type::POINT {
@@ -78,7 +78,7 @@ impl Walk {
     // So many pairs, one behind the other.
     pub fn pairs(self, count: u32) -> Walk
         requires { self.length < 9223372036854775808 }
-        ensures { result ≡ pairsOn self count }
+        ensures { result ≡ pairs_on self count }
     {
         let mut w = self;
         if self.points {

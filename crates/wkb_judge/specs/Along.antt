@@ -5,19 +5,19 @@ use Rattle.std.proofs.Math.Option.{none}
 use Rattle.std.proofs.Math.Decide.{dec_lt}
 use Rattle.kinds.specs.Event.{WellFormed}
 use Rattle.kinds.specs.declared.event.Event.{Event as Flat}
-use Rattle.log.specs.Log.{heard, featureIn, recordOf, recordsIn}
+use Rattle.log.specs.Log.{heard, feature_in, record_of, records_in}
 use Rattle.nesting.specs.Events.{Event}
 use Rattle.nesting.specs.Machine.{Frame, State, within, start, taken, refused, step}
 use Rattle.nesting.specs.Flat.{read}
-use Rattle.nesting.specs.Levels.{anyDepth, sixteen}
+use Rattle.nesting.specs.Levels.{any_depth, sixteen}
 use Rattle.nesting.specs.Taking.{Is, Refused}
 use Rattle.nesting.specs.declared.frame.Frame.{Frame as Held}
 use Rattle.wkb_written.specs.Spelling.{Around, outermost, after, bytes_of, spelled}
-use Rattle.wkb_written.specs.SpellingLaws.{event-bound}
-use Rattle.wkb_written.specs.Writing.{listed, alike, nested, eventsIn}
-use Rattle.wkb_events.specs.Course.{fell, heightOf, closes, course, course-goes, course-falls, nested-course, deepens, same_step, deep-stops}
+use Rattle.wkb_written.specs.SpellingLaws.{event_bound}
+use Rattle.wkb_written.specs.Writing.{listed, alike, nested, events_in}
+use Rattle.wkb_events.specs.Course.{fell, height_of, closes, course, course_goes, course_falls, nested-course, deepens, same_step, deep_stops}
 use Rattle.wkb_events.specs.Walk.{around_of, Moved}
-use Rattle.wkb_judge.specs.Rows.{lifted, listed-on, alike-on}
+use Rattle.wkb_judge.specs.Rows.{lifted, listed_on, alike_on}
 use Rattle.wkb_judge.specs.Passing.{In, SlotOf}
 use Rattle.wkb_events.specs.declared.walk.Walk.{Walk}
 
@@ -34,7 +34,7 @@ Shallow true puts s = (l : List Flat) → closes (course sixteen (map read (puts
 
 -- `puts` has the events so far before those that follow
 pub record On (low : ℕ) (puts : List Flat → List Flat) (w : Walk) (top : Held) (stored : List Held) (f : Frame) (fs : List Frame) : Type 0 where
-  pub goes : (l : List Flat) → course anyDepth (map read (puts l)) start ≡ course anyDepth (map read l) (within f fs)
+  pub goes : (l : List Flat) → course any_depth (map read (puts l)) start ≡ course any_depth (map read l) (within f fs)
   pub shallow : Shallow w.deep puts (within f fs)
   pub tall : w.height ≡ length fs
   pub innermost : In low (length fs) → Is top f
@@ -42,7 +42,7 @@ pub record On (low : ℕ) (puts : List Flat → List Flat) (w : Walk) (top : Hel
 
 pub record Off (low : ℕ) (puts : List Flat → List Flat) (highest : ℕ) : Type 0 where
   pub height : ℕ
-  pub falls : (l : List Flat) → course anyDepth (map read (puts l)) start ≡ fell height
+  pub falls : (l : List Flat) → course any_depth (map read (puts l)) start ≡ fell height
   pub unseen : In low height → ⊥
   pub most : height ≤ highest
 
@@ -52,8 +52,8 @@ pub data Stands (low : ℕ) (puts : List Flat → List Flat) (w : Walk) (top : H
 
 pub record Along (bytes : List ℕ) (low feature i : ℕ) (w : Walk) (top : Held) (stored : List Held) : Type 0 where
   pub puts : List Flat → List Flat
-  pub listing : eventsIn bytes ≡ lifted puts (listed (recordsIn bytes - i) i bytes)
-  pub one : alike (recordsIn bytes) 0 bytes feature ≡ alike (recordsIn bytes - i) i bytes feature
+  pub listing : events_in bytes ≡ lifted puts (listed (records_in bytes - i) i bytes)
+  pub one : alike (records_in bytes) 0 bytes feature ≡ alike (records_in bytes - i) i bytes feature
   pub long : (l : List Flat) → length (spelled outermost (map read (puts l))) ≡ w.length + length (spelled (around_of w) (map read l))
   pub high : w.height ≤ w.highest
   pub few : w.highest ≤ i
@@ -62,11 +62,11 @@ pub record Along (bytes : List ℕ) (low feature i : ℕ) (w : Walk) (top : Held
 
 -- ---- the slots
 module _ (low k : ℕ) (v : Held) (stored : List Held) where
-  pub kept-apart : (fs : List Frame) → ((h : ℕ) → In low h → h < length fs → h - low ≡ k → ⊥) → Kept low stored fs → Kept low (set stored k v) fs
-  kept-apart [] apart kept = tt
-  kept-apart (f ∷ fs) apart kept = (
+  pub kept_apart : (fs : List Frame) → ((h : ℕ) → In low h → h < length fs → h - low ≡ k → ⊥) → Kept low stored fs → Kept low (set stored k v) fs
+  kept_apart [] apart kept = tt
+  kept_apart (f ∷ fs) apart kept = (
     λ seen d. subst (λ (g : Held). Is g f) (sym (get_or-set_other stored k (length fs - low) v d (apart (length fs) seen (omega arith)))) (kept.0 seen d),
-    kept-apart fs (λ h seen less. apart h seen (omega arith)) kept.1,
+    kept_apart fs (λ h seen less. apart h seen (omega arith)) kept.1,
   )
 
 -- a slot is none of those below it
@@ -80,75 +80,75 @@ slot_apart low height k s h seen less e = go (dec_lt k 256)
 pub kept_on : (low k : ℕ) (top : Held) (stored : List Held) (f : Frame) (fs : List Frame) → k < length stored → SlotOf low (length fs) k → (In low (length fs) → Is top f) → Kept low stored fs → Kept low (set stored k top) (f ∷ fs)
 kept_on low k top stored f fs room s innermost kept = (
   λ seen d. subst (λ (g : Held). Is g f) (sym (ap (λ (j : ℕ). get_or (set stored k top) j d) (sym (s.seen seen)) ∙ get_or-set_same stored k top d room)) (innermost seen),
-  kept-apart low k top stored fs (slot_apart low (length fs) k s) kept,
+  kept_apart low k top stored fs (slot_apart low (length fs) k s) kept,
 )
 
 -- ---- one event more
-shallow-on : (puts : List Flat → List Flat) (s t : State) (e : Flat) (v : Event) → read e ≡ v → step anyDepth s v ≡ taken t → (deep next : Bool) → next ≡ (deepens (heightOf s) v || deep) → Shallow deep puts s → Shallow next (λ l. puts (e ∷ l)) t
-shallow-on puts s t e v reads goes deep next is h = subst (λ (b : Bool). Shallow b (λ l. puts (e ∷ l)) t) (sym is) (go (deepens (heightOf s) v) refl deep h)
+shallow_on : (puts : List Flat → List Flat) (s t : State) (e : Flat) (v : Event) → read e ≡ v → step any_depth s v ≡ taken t → (deep next : Bool) → next ≡ (deepens (height_of s) v || deep) → Shallow deep puts s → Shallow next (λ l. puts (e ∷ l)) t
+shallow_on puts s t e v reads goes deep next is h = subst (λ (b : Bool). Shallow b (λ l. puts (e ∷ l)) t) (sym is) (go (deepens (height_of s) v) refl deep h)
   where
     at-event : (l : List Flat) → course sixteen (map read (e ∷ l)) s ≡ course sixteen (v ∷ map read l) s
     at-event l = ap (λ (u : Event). course sixteen (u ∷ map read l) s) reads
 
-    go : (b : Bool) → deepens (heightOf s) v ≡ b → (deep : Bool) → Shallow deep puts s → Shallow (b || deep) (λ l. puts (e ∷ l)) t
+    go : (b : Bool) → deepens (height_of s) v ≡ b → (deep : Bool) → Shallow deep puts s → Shallow (b || deep) (λ l. puts (e ∷ l)) t
     go true d true h = λ l. h (e ∷ l)
-    go true d false h = λ l. ap closes (h (e ∷ l) ∙ at-event l ∙ course-falls sixteen s v (map read l) (deep-stops s v d))
+    go true d false h = λ l. ap closes (h (e ∷ l) ∙ at-event l ∙ course_falls sixteen s v (map read l) (deep_stops s v d))
     go false d true h = λ l. h (e ∷ l)
-    go false d false h = λ l. h (e ∷ l) ∙ at-event l ∙ course-goes sixteen s t v (map read l) (same_step s v d ∙ goes)
+    go false d false h = λ l. h (e ∷ l) ∙ at-event l ∙ course_goes sixteen s t v (map read l) (same_step s v d ∙ goes)
 
 module _ {low : ℕ} {puts : List Flat → List Flat} {w : Walk} {top : Held} {stored : List Held} {f : Frame} {fs : List Frame} (o : On low puts w top stored f fs) (e : Flat) (v : Event) (reads : read e ≡ v) where
-  at-event : (l : List Flat) → course anyDepth (map read (puts (e ∷ l))) start ≡ course anyDepth (v ∷ map read l) (within f fs)
-  at-event l = o.goes (e ∷ l) ∙ ap (λ (u : Event). course anyDepth (u ∷ map read l) (within f fs)) reads
+  at-event : (l : List Flat) → course any_depth (map read (puts (e ∷ l))) start ≡ course any_depth (v ∷ map read l) (within f fs)
+  at-event l = o.goes (e ∷ l) ∙ ap (λ (u : Event). course any_depth (u ∷ map read l) (within f fs)) reads
 
   -- the machine refuses it, whatever follows
-  pub refused-here : Refused (step anyDepth (within f fs) v) → (l : List Flat) → nested anyDepth (puts (e ∷ l)) ≡ false
-  refused-here stops l = nested-course anyDepth (puts (e ∷ l)) ∙ ap closes (at-event l ∙ course-falls anyDepth (within f fs) v (map read l) stops)
+  pub refused_here : Refused (step any_depth (within f fs) v) → (l : List Flat) → nested any_depth (puts (e ∷ l)) ≡ false
+  refused_here stops l = nested-course any_depth (puts (e ∷ l)) ∙ ap closes (at-event l ∙ course_falls any_depth (within f fs) v (map read l) stops)
 
   module _ {height : ℕ} {r : Walk} (moved : Moved w v height r) {next : Held} {kept : List Held} where
-    pub taken-on : (g : Frame) (gs : List Frame) → step anyDepth (within f fs) v ≡ taken (within g gs) → height ≡ length gs → (In low (length gs) → Is next g) → Kept low kept gs → Stands low (λ l. puts (e ∷ l)) r next kept
-    taken-on g gs goes tall innermost still =
+    pub taken_on : (g : Frame) (gs : List Frame) → step any_depth (within f fs) v ≡ taken (within g gs) → height ≡ length gs → (In low (length gs) → Is next g) → Kept low kept gs → Stands low (λ l. puts (e ∷ l)) r next kept
+    taken_on g gs goes tall innermost still =
         on g gs (record {
-          goes = λ l. at-event l ∙ course-goes anyDepth (within f fs) (within g gs) v (map read l) goes;
-          shallow = shallow-on puts (within f fs) (within g gs) e v reads goes w.deep r.deep (moved.deep ∙ ap (λ (n : ℕ). deepens n v || w.deep) o.tall) o.shallow;
+          goes = λ l. at-event l ∙ course_goes any_depth (within f fs) (within g gs) v (map read l) goes;
+          shallow = shallow_on puts (within f fs) (within g gs) e v reads goes w.deep r.deep (moved.deep ∙ ap (λ (n : ℕ). deepens n v || w.deep) o.tall) o.shallow;
           tall = moved.tall ∙ tall;
           innermost = innermost;
           kept = still;
         })
 
-    pub refused-on : Refused (step anyDepth (within f fs) v) → (In low (length fs) → ⊥) → w.height ≤ w.highest → Stands low (λ l. puts (e ∷ l)) r next kept
-    refused-on stops unseen high = off (record { height = length fs; falls = λ l. at-event l ∙ course-falls anyDepth (within f fs) v (map read l) stops; unseen = unseen; most = omega (arith, o.tall, moved.grows) })
+    pub refused_on : Refused (step any_depth (within f fs) v) → (In low (length fs) → ⊥) → w.height ≤ w.highest → Stands low (λ l. puts (e ∷ l)) r next kept
+    refused_on stops unseen high = off (record { height = length fs; falls = λ l. at-event l ∙ course_falls any_depth (within f fs) v (map read l) stops; unseen = unseen; most = omega (arith, o.tall, moved.grows) })
 
 -- ---- an event that was counted, in all that a pass knows
-long-on : (w r : Walk) (v : Event) (height : ℕ) (m : List Event) → Moved w v height r → w.length + length (spelled (around_of w) (v ∷ m)) ≡ r.length + length (spelled (around_of r) m)
+long_on : (w r : Walk) (v : Event) (height : ℕ) (m : List Event) → Moved w v height r → w.length + length (spelled (around_of w) (v ∷ m)) ≡ r.length + length (spelled (around_of r) m)
 unfolding spelled
-long-on w r v height m moved =
+long_on w r v height m moved =
     let parts = length-append (bytes_of (around_of w) v) (spelled (after (around_of w) v) m) in
     let same : length (spelled (around_of r) m) ≡ length (spelled (after (around_of w) v) m) = ap (λ (k : Around). length (spelled k m)) moved.around in
     omega (arith, parts, same, moved.long)
 
 pub record Counted (bytes : List ℕ) (i : ℕ) (feature : ℕ) (e : Flat) (v : Event) : Type 0 where
-  pub less : i < recordsIn bytes
-  pub is : heard (recordOf bytes i) ≡ WellFormed e
-  pub own : eqb (featureIn (recordOf bytes i)) feature ≡ true
+  pub less : i < records_in bytes
+  pub is : heard (record_of bytes i) ≡ WellFormed e
+  pub own : eqb (feature_in (record_of bytes i)) feature ≡ true
   pub reads : read e ≡ v
 
 module _ {bytes : List ℕ} {low feature i : ℕ} {w : Walk} {top : Held} {stored : List Held} (a : Along bytes low feature i w top stored) {e : Flat} {v : Event} (c : Counted bytes i feature e v) {height : ℕ} {r : Walk} (moved : Moved w v height r) {next : Held} {kept : List Held} where
   -- off stays off
-  still-off : Off low a.puts w.highest → Stands low (λ l. a.puts (e ∷ l)) r next kept
-  still-off o = off (record { height = o.height; falls = λ l. o.falls (e ∷ l); unseen = o.unseen; most = omega (arith, o.most, moved.grows) })
+  still_off : Off low a.puts w.highest → Stands low (λ l. a.puts (e ∷ l)) r next kept
+  still_off o = off (record { height = o.height; falls = λ l. o.falls (e ∷ l); unseen = o.unseen; most = omega (arith, o.most, moved.grows) })
 
   pub counted : height ≤ i + 1 → ((f : Frame) (fs : List Frame) → On low a.puts w top stored f fs → Stands low (λ l. a.puts (e ∷ l)) r next kept) → Along bytes low feature (i + 1) r next kept
   counted few go_on = record {
     puts = λ l. a.puts (e ∷ l);
-    listing = listed-on bytes i c.less (eventsIn bytes) a.puts a.listing e c.is;
-    one = alike-on bytes i c.less feature (alike (recordsIn bytes) 0 bytes feature) a.one c.own;
-    long = λ l. a.long (e ∷ l) ∙ ap (λ (u : Event). w.length + length (spelled (around_of w) (u ∷ map read l))) c.reads ∙ long-on w r v height (map read l) moved;
+    listing = listed_on bytes i c.less (events_in bytes) a.puts a.listing e c.is;
+    one = alike_on bytes i c.less feature (alike (records_in bytes) 0 bytes feature) a.one c.own;
+    long = λ l. a.long (e ∷ l) ∙ ap (λ (u : Event). w.length + length (spelled (around_of w) (u ∷ map read l))) c.reads ∙ long_on w r v height (map read l) moved;
     high = moved.highest a.high;
     few = moved.most (i + 1) (omega (arith, a.few)) few;
-    short = omega (arith, a.short, moved.long, event-bound (around_of w) v);
+    short = omega (arith, a.short, moved.long, event_bound (around_of w) v);
     stands = by_state a.stands;
   }
     where
       by_state : Stands low a.puts w top stored → Stands low (λ l. a.puts (e ∷ l)) r next kept
       by_state (on f fs o) = go_on f fs o
-      by_state (off o) = still-off o
+      by_state (off o) = still_off o

@@ -2,12 +2,12 @@
 use Rattle.std.specs.Prelude.{◌≡◌, Bool, true, false, not, ◌&&◌, List, map, ℕ, ◌+◌, ◌-◌, ◌/◌, ◌<◌, ◌≤◌, length}
 use Rattle.std.proofs.Math.Option.{none, some}
 use Rattle.kinds.specs.declared.event.Event.{Event as Flat}
-use Rattle.log.specs.Log.{recordsIn}
+use Rattle.log.specs.Log.{records_in}
 use Rattle.nesting.specs.Machine.{State, start}
 use Rattle.nesting.specs.Flat.{read}
-use Rattle.nesting.specs.Levels.{anyDepth, sixteen}
+use Rattle.nesting.specs.Levels.{any_depth, sixteen}
 use Rattle.wkb_written.specs.Spelling.{outermost, spelled}
-use Rattle.wkb_written.specs.Writing.{listed, nested, eventsIn, oneFeature}
+use Rattle.wkb_written.specs.Writing.{listed, nested, events_in, one_feature}
 use Rattle.wkb_events.specs.Course.{reached, fell, course}
 use Rattle.wkb_judge.specs.declared.judge.Pass.{Pass}
 use Rattle.wkb_judge.specs.declared.judge.Pass.TheVariants.{Malformed, Fault, Sound}
@@ -17,18 +17,18 @@ use Rattle.wkb_judge.specs.declared.judge.Judged.TheVariants.{Malformed as NoEve
 -- ---- the answer
 pub record Faulty (bytes : List ℕ) : Type 0 where
   pub events : List Flat
-  pub listing : eventsIn bytes ≡ some events
-  pub bad : (oneFeature bytes && nested anyDepth events) ≡ false
+  pub listing : events_in bytes ≡ some events
+  pub bad : (one_feature bytes && nested any_depth events) ≡ false
 
 pub record Whole (bytes : List ℕ) (deep : Bool) (long : ℕ) : Type 0 where
   pub events : List Flat
-  pub listing : eventsIn bytes ≡ some events
-  pub good : (oneFeature bytes && nested anyDepth events) ≡ true
+  pub listing : events_in bytes ≡ some events
+  pub good : (one_feature bytes && nested any_depth events) ≡ true
   pub deep_is : deep ≡ not (nested sixteen events)
-  pub long-is : long ≡ length (spelled outermost (map read events))
+  pub long_is : long ≡ length (spelled outermost (map read events))
 
 abbrev pub JudgedOf : List ℕ → Judged → Type 0
-JudgedOf bytes NoEvents = eventsIn bytes ≡ none
+JudgedOf bytes NoEvents = events_in bytes ≡ none
 JudgedOf bytes NotNested = Faulty bytes
 JudgedOf bytes (Nested deep long) = Whole bytes deep long
 
@@ -45,28 +45,28 @@ pub record SlotOf (low height r : ℕ) : Type 0 where
 
 -- The events were all taken, and with the lowest window the machine is closed; or one was refused at a height that is not of the window.
 pub data Ends (events : List Flat) (low highest : ℕ) (deep : Bool) : Type 0 where
-  stood : (s : State) → course anyDepth (map read events) start ≡ reached s → (low ≡ 0 → (nested anyDepth events ≡ true) × (deep ≡ not (nested sixteen events))) → Ends events low highest deep
-  beyond : (height : ℕ) → course anyDepth (map read events) start ≡ fell height → (In low height → ⊥) → height ≤ highest → Ends events low highest deep
+  stood : (s : State) → course any_depth (map read events) start ≡ reached s → (low ≡ 0 → (nested any_depth events ≡ true) × (deep ≡ not (nested sixteen events))) → Ends events low highest deep
+  beyond : (height : ℕ) → course any_depth (map read events) start ≡ fell height → (In low height → ⊥) → height ≤ highest → Ends events low highest deep
 
 pub record Passed (bytes : List ℕ) (low highest : ℕ) (deep : Bool) (long : ℕ) : Type 0 where
   pub events : List Flat
-  pub listing : eventsIn bytes ≡ some events
-  pub one : oneFeature bytes ≡ true
+  pub listing : events_in bytes ≡ some events
+  pub one : one_feature bytes ≡ true
   pub few : highest ≤ length bytes / 64
-  pub long-is : long ≡ length (spelled outermost (map read events))
+  pub long_is : long ≡ length (spelled outermost (map read events))
   pub ends : Ends events low highest deep
 
 abbrev pub PassOf : List ℕ → ℕ → Pass → Type 0
-PassOf bytes low Malformed = eventsIn bytes ≡ none
+PassOf bytes low Malformed = events_in bytes ≡ none
 PassOf bytes low Fault = Faulty bytes
 PassOf bytes low (Sound highest deep long) = Passed bytes low highest deep long
 
 -- what the records from one on come to, behind a fault
 pub record Later (bytes : List ℕ) (from : ℕ) : Type 0 where
   pub events : List Flat
-  pub listing : listed (recordsIn bytes - from) from bytes ≡ some events
+  pub listing : listed (records_in bytes - from) from bytes ≡ some events
 
 abbrev pub LaterOf : List ℕ → ℕ → Pass → Type 0
-LaterOf bytes from Malformed = listed (recordsIn bytes - from) from bytes ≡ none
+LaterOf bytes from Malformed = listed (records_in bytes - from) from bytes ≡ none
 LaterOf bytes from Fault = Later bytes from
 LaterOf bytes from (Sound highest deep long) = ⊥

@@ -4,33 +4,33 @@ use Rattle.std.proofs.Common.{ap, ◌∙◌, arith}
 use Rattle.std.proofs.Math.Option.{none}
 use Rattle.laws.specs.Branch.{is_true, is_false}
 use Rattle.kinds.specs.declared.event.Event.{Event as Flat}
-use Rattle.log.specs.Log.{heard, recordsIn}
+use Rattle.log.specs.Log.{heard, records_in}
 use Rattle.wkb_written.specs.Writing.{listed}
-use Rattle.kinds.specs.Event.{isEvent}
-use Rattle.wkb_events.specs.Told.{is-event, no-event}
-use Rattle.wkb_judge.specs.Rows.{lifted, lifted-self, part-is, whole-records, listed-on, listed-none, listed-ends}
+use Rattle.kinds.specs.Event.{is_event}
+use Rattle.wkb_events.specs.Told.{is-event, no_event}
+use Rattle.wkb_judge.specs.Rows.{lifted, lifted_self, part_is, whole_records, listed_on, listed_none, listed-ends}
 use Rattle.wkb_judge.specs.Passing.{Later}
 
 pub record Searched (bytes : List ℕ) (from i : ℕ) : Type 0 where
   pub puts : List Flat → List Flat
-  pub so_far : listed (recordsIn bytes - from) from bytes ≡ lifted puts (listed (recordsIn bytes - i) i bytes)
+  pub so_far : listed (records_in bytes - from) from bytes ≡ lifted puts (listed (records_in bytes - i) i bytes)
 
-pub none-searched : (bytes : List ℕ) (from : ℕ) → Searched bytes from from
-none-searched bytes from = record { puts = λ l. l; so_far = lifted-self (listed (recordsIn bytes - from) from bytes) }
+pub none_searched : (bytes : List ℕ) (from : ℕ) → Searched bytes from from
+none_searched bytes from = record { puts = λ l. l; so_far = lifted_self (listed (records_in bytes - from) from bytes) }
 
 -- the record `i`, as code has it
 abbrev part_of : List ℕ → ℕ → List ℕ
 part_of bytes i = take (64 * i + 64 - 64 * i) (drop (64 * i) bytes)
 
 module _ (bytes : List ℕ) (from i : ℕ) (whole : length bytes % 64 ≡ 0) (so_far : Searched bytes from i) where
-  pub one-searched : (r : Bool) → i < length bytes / 64 → r ≡ isEvent (heard (part_of bytes i)) → not r ≡ false → Searched bytes from (i + 1)
-  one-searched r less e h =
-      let v = is-event _ (is_true (e ∙ ap (λ (l : List ℕ). isEvent (heard l)) (part-is bytes i)) h) in
-      record { puts = λ l. so_far.puts (v.event ∷ l); so_far = listed-on bytes i (omega (arith, whole-records bytes whole)) _ so_far.puts so_far.so_far v.event v.is }
+  pub one_searched : (r : Bool) → i < length bytes / 64 → r ≡ is_event (heard (part_of bytes i)) → not r ≡ false → Searched bytes from (i + 1)
+  one_searched r less e h =
+      let v = is-event _ (is_true (e ∙ ap (λ (l : List ℕ). is_event (heard l)) (part_is bytes i)) h) in
+      record { puts = λ l. so_far.puts (v.event ∷ l); so_far = listed_on bytes i (omega (arith, whole_records bytes whole)) _ so_far.puts so_far.so_far v.event v.is }
 
-  pub one-malformed : (r : Bool) → i < length bytes / 64 → r ≡ isEvent (heard (part_of bytes i)) → not r ≡ true → listed (recordsIn bytes - from) from bytes ≡ none
+  pub one-malformed : (r : Bool) → i < length bytes / 64 → r ≡ is_event (heard (part_of bytes i)) → not r ≡ true → listed (records_in bytes - from) from bytes ≡ none
   one-malformed r less e h =
-      listed-none bytes i (omega (arith, whole-records bytes whole)) _ so_far.puts so_far.so_far (no-event _ (is_false (e ∙ ap (λ (l : List ℕ). isEvent (heard l)) (part-is bytes i)) h))
+      listed_none bytes i (omega (arith, whole_records bytes whole)) _ so_far.puts so_far.so_far (no_event _ (is_false (e ∙ ap (λ (l : List ℕ). is_event (heard l)) (part_is bytes i)) h))
 
-  pub all-searched : length bytes / 64 ≤ i → Later bytes from
-  all-searched over = record { events = so_far.puts []; listing = listed-ends bytes i (omega (arith, whole-records bytes whole)) _ so_far.puts so_far.so_far }
+  pub all_searched : length bytes / 64 ≤ i → Later bytes from
+  all_searched over = record { events = so_far.puts []; listing = listed-ends bytes i (omega (arith, whole_records bytes whole)) _ so_far.puts so_far.so_far }

@@ -1,32 +1,32 @@
 -- Each turn of a pass, from what the code asked and was told.
 use Rattle.std.specs.Prelude.{◌≡◌, refl, Bool, true, false, not, cond, ◌&&◌, ◌||◌, List, [], ◌∷◌, map, ℕ, suc, ◌+◌, ◌-◌, ◌*◌, ◌/◌, ◌%◌, ◌<◌, ◌≤◌, eqb, ltb, length, take, drop, get_or, set}
 use Rattle.std.proofs.Common.{sym, ap, ◌∙◌, subst, arith, ltb-true, lt-ltb, eqb-true, ne_eqb}
-use Rattle.std.proofs.Math.Bool.{and-false}
+use Rattle.std.proofs.Math.Bool.{and_false}
 use Rattle.std.proofs.Math.Option.{none, some}
 use Rattle.std.proofs.Math.Nat.{sub-zero}
 use Rattle.std.proofs.lemmas.Bool.{eqb-false, not-true, not-false}
 use Rattle.laws.specs.Every.{never, both, other, neither}
 use Rattle.kinds.specs.Event.{Malformed as Unheard, WellFormed}
 use Rattle.kinds.specs.declared.event.Event.{Event as Flat}
-use Rattle.log.specs.Log.{heard, featureIn, recordOf, recordsIn}
+use Rattle.log.specs.Log.{heard, feature_in, record_of, records_in}
 use Rattle.nesting.specs.Events.{GeometryType, Event, begin, end, pair, strange}
 use Rattle.nesting.specs.Rules.{limit64}
-use Rattle.nesting.specs.Machine.{Frame, frame, outside, State, within, start, taken, refused, number, count, ofPairs, oneMore, endFits, pairFits, place, step}
+use Rattle.nesting.specs.Machine.{Frame, frame, outside, State, within, start, taken, refused, number, count, of_pairs, one_more, end_fits, pair_fits, place, step}
 use Rattle.nesting.specs.Flat.{read}
-use Rattle.nesting.specs.Levels.{anyDepth, sixteen, rules-of}
+use Rattle.nesting.specs.Levels.{any_depth, sixteen, rules_of_lem}
 use Rattle.nesting.specs.Rules.{Rules}
-use Rattle.nesting.specs.Sound.{reached-sound}
+use Rattle.nesting.specs.Sound.{reached_sound}
 use Rattle.nesting.specs.Tests.{five}
-use Rattle.nesting.specs.Taking.{Is, ample, begins, begin-goes, begin-stops as begin-refused, Refused}
+use Rattle.nesting.specs.Taking.{Is, ample, begins, begin_goes, begin_stops as begin-refused, Refused}
 use Rattle.nesting.specs.declared.frame.Frame.{Frame as Held}
 use Rattle.wkb_written.specs.Spelling.{Around, spelled}
-use Rattle.wkb_written.specs.Writing.{listed, alike, nested, eventsIn, oneFeature}
-use Rattle.wkb_events.specs.Course.{reached, closes, course, course-none, nested-course, run-reached}
+use Rattle.wkb_written.specs.Writing.{listed, alike, nested, events_in, one_feature}
+use Rattle.wkb_events.specs.Course.{reached, closes, course, course_none, nested-course, run-reached}
 use Rattle.wkb_events.specs.Told.{Behind, ToldOf}
 use Rattle.wkb_events.specs.Walk.{around_of, Moved, started}
-use Rattle.wkb_judge.specs.Rows.{lifted, lifted-self, part-is, whole-records, listed-on, listed-none, alike-off, listed-ends, alike-ends}
+use Rattle.wkb_judge.specs.Rows.{lifted, lifted_self, part_is, whole_records, listed_on, listed_none, alike_off, listed-ends, alike-ends}
 use Rattle.wkb_judge.specs.Passing.{In, SlotOf, Faulty, Ends, stood, beyond, Passed, PassOf, LaterOf}
-use Rattle.wkb_judge.specs.Along.{Shallow, On, Stands, on, off, Along, kept_on, taken-on, refused-on, refused-here, Counted, counted}
+use Rattle.wkb_judge.specs.Along.{Shallow, On, Stands, on, off, Along, kept_on, taken_on, refused_on, refused_here, Counted, counted}
 use Rattle.wkb_events.specs.declared.walk.Walk.{Walk}
 use Rattle.wkb_events.specs.declared.told.Told.{Told}
 use Rattle.wkb_events.specs.declared.told.Told.TheVariants.{Pair, Begin, End, Strange}
@@ -34,75 +34,75 @@ use Rattle.wkb_judge.specs.declared.judge.Pass.{Pass}
 use Rattle.wkb_judge.specs.declared.judge.Pass.TheVariants.{Malformed as NoEvents, Fault, Sound}
 
 -- what the record `i` was told to be
-pub told_here : (bytes : List ℕ) (feature i : ℕ) (t u : Told) → ToldOf (take (64 * i + 64 - 64 * i) (drop (64 * i) bytes)) feature t → t ≡ u → ToldOf (recordOf bytes i) feature u
-told_here bytes feature i t u h e = subst (λ (t : Told). ToldOf (recordOf bytes i) feature t) e (subst (λ (l : List ℕ). ToldOf l feature t) (part-is bytes i) h)
+pub told_here : (bytes : List ℕ) (feature i : ℕ) (t u : Told) → ToldOf (take (64 * i + 64 - 64 * i) (drop (64 * i) bytes)) feature t → t ≡ u → ToldOf (record_of bytes i) feature u
+told_here bytes feature i t u h e = subst (λ (t : Told). ToldOf (record_of bytes i) feature t) e (subst (λ (l : List ℕ). ToldOf l feature t) (part_is bytes i) h)
 
 -- ---- a test that is made inside the window only
-seen-passes : (low height k : ℕ) → SlotOf low height k → In low height → (ok : Bool) → (ltb k 256 && not ok) ≡ false → ok ≡ true
-seen-passes low height k s seen ok h = not-false ok (sym (ap (λ (b : Bool). b && not ok) (lt-ltb k 256 (omega (arith, s.seen seen, seen.0, seen.1)))) ∙ h)
+seen_passes : (low height k : ℕ) → SlotOf low height k → In low height → (ok : Bool) → (ltb k 256 && not ok) ≡ false → ok ≡ true
+seen_passes low height k s seen ok h = not-false ok (sym (ap (λ (b : Bool). b && not ok) (lt-ltb k 256 (omega (arith, s.seen seen, seen.0, seen.1)))) ∙ h)
 
 record Failed (low height : ℕ) (ok : Bool) : Type 0 where
   seen : In low height
   fails : ok ≡ false
 
-seen-fails : (low height k : ℕ) → SlotOf low height k → (ok : Bool) → (ltb k 256 && not ok) ≡ true → Failed low height ok
-seen-fails low height k s ok h = let t = both (ltb k 256) (not ok) h in record { seen = s.back (ltb-true k 256 t.0); fails = not-true ok t.1 }
+seen_fails : (low height k : ℕ) → SlotOf low height k → (ok : Bool) → (ltb k 256 && not ok) ≡ true → Failed low height ok
+seen_fails low height k s ok h = let t = both (ltb k 256) (not ok) h in record { seen = s.back (ltb-true k 256 t.0); fails = not-true ok t.1 }
 
 -- something is open
-pub some-open : (height : ℕ) (b : Bool) → (eqb height 0 || b) ≡ false → 1 ≤ height
-some-open height b h = omega (arith, eqb-false height 0 (neither (eqb height 0) b h).0)
+pub some_open : (height : ℕ) (b : Bool) → (eqb height 0 || b) ≡ false → 1 ≤ height
+some_open height b h = omega (arith, eqb-false height 0 (neither (eqb height 0) b h).0)
 
-module _ {bytes : List ℕ} {low feature i : ℕ} {w : Walk} {top : Held} {stored : List Held} (whole : length bytes % 64 ≡ 0) (first : feature ≡ featureIn (recordOf bytes 0)) (less : i < length bytes / 64) (a : Along bytes low feature i w top stored) where
-  within-list : i < recordsIn bytes
-  within-list = omega (arith, whole-records bytes whole)
+module _ {bytes : List ℕ} {low feature i : ℕ} {w : Walk} {top : Held} {stored : List Held} (whole : length bytes % 64 ≡ 0) (first : feature ≡ feature_in (record_of bytes 0)) (less : i < length bytes / 64) (a : Along bytes low feature i w top stored) where
+  within_list : i < records_in bytes
+  within_list = omega (arith, whole_records bytes whole)
 
   -- ---- a fault, behind which only a malformed record is looked for
-  fault-at : (e : Flat) → heard (recordOf bytes i) ≡ WellFormed e → ((l : List Flat) → (alike (recordsIn bytes) 0 bytes feature && nested anyDepth (a.puts (e ∷ l))) ≡ false) → (r : Pass) → LaterOf bytes (i + 1) r → PassOf bytes low r
-  fault-at e is bad NoEvents h = listed-on bytes i within-list (eventsIn bytes) a.puts a.listing e is ∙ ap (lifted (λ l. a.puts (e ∷ l))) h
-  fault-at e is bad Fault h = record {
+  fault_at : (e : Flat) → heard (record_of bytes i) ≡ WellFormed e → ((l : List Flat) → (alike (records_in bytes) 0 bytes feature && nested any_depth (a.puts (e ∷ l))) ≡ false) → (r : Pass) → LaterOf bytes (i + 1) r → PassOf bytes low r
+  fault_at e is bad NoEvents h = listed_on bytes i within_list (events_in bytes) a.puts a.listing e is ∙ ap (lifted (λ l. a.puts (e ∷ l))) h
+  fault_at e is bad Fault h = record {
     events = a.puts (e ∷ h.events);
-    listing = listed-on bytes i within-list (eventsIn bytes) a.puts a.listing e is ∙ ap (lifted (λ l. a.puts (e ∷ l))) h.listing;
-    bad = subst (λ (n : ℕ). (alike (recordsIn bytes) 0 bytes n && nested anyDepth (a.puts (e ∷ h.events))) ≡ false) first (bad h.events);
+    listing = listed_on bytes i within_list (events_in bytes) a.puts a.listing e is ∙ ap (lifted (λ l. a.puts (e ∷ l))) h.listing;
+    bad = subst (λ (n : ℕ). (alike (records_in bytes) 0 bytes n && nested any_depth (a.puts (e ∷ h.events))) ≡ false) first (bad h.events);
   }
-  fault-at e is bad (Sound highest deep long) h = absurd h
+  fault_at e is bad (Sound highest deep long) h = absurd h
 
   -- one that the machine refuses
-  refused-at : (e : Flat) (v : Event) → heard (recordOf bytes i) ≡ WellFormed e → read e ≡ v → ((f : Frame) (fs : List Frame) → On low a.puts w top stored f fs → Refused (step anyDepth (within f fs) v)) → (r : Pass) → LaterOf bytes (i + 1) r → PassOf bytes low r
-  refused-at e v is reads stops = fault-at e is (λ l. ap (λ (b : Bool). alike (recordsIn bytes) 0 bytes feature && b) (falls a.stands l) ∙ and-false (alike (recordsIn bytes) 0 bytes feature))
+  refused_at : (e : Flat) (v : Event) → heard (record_of bytes i) ≡ WellFormed e → read e ≡ v → ((f : Frame) (fs : List Frame) → On low a.puts w top stored f fs → Refused (step any_depth (within f fs) v)) → (r : Pass) → LaterOf bytes (i + 1) r → PassOf bytes low r
+  refused_at e v is reads stops = fault_at e is (λ l. ap (λ (b : Bool). alike (records_in bytes) 0 bytes feature && b) (falls a.stands l) ∙ and_false (alike (records_in bytes) 0 bytes feature))
     where
-      falls : Stands low a.puts w top stored → (l : List Flat) → nested anyDepth (a.puts (e ∷ l)) ≡ false
-      falls (on f fs o) l = refused-here o e v reads (stops f fs o) l
-      falls (off o) l = nested-course anyDepth (a.puts (e ∷ l)) ∙ ap closes (o.falls (e ∷ l))
+      falls : Stands low a.puts w top stored → (l : List Flat) → nested any_depth (a.puts (e ∷ l)) ≡ false
+      falls (on f fs o) l = refused_here o e v reads (stops f fs o) l
+      falls (off o) l = nested-course any_depth (a.puts (e ∷ l)) ∙ ap closes (o.falls (e ∷ l))
 
-  pub strange-stops : Behind (recordOf bytes i) feature Strange → (r : Pass) → LaterOf bytes (i + 1) r → PassOf bytes low r
-  strange-stops b = by-feature (eqb (featureIn (recordOf bytes i)) feature) refl
+  pub strange_stops : Behind (record_of bytes i) feature Strange → (r : Pass) → LaterOf bytes (i + 1) r → PassOf bytes low r
+  strange_stops b = by-feature (eqb (feature_in (record_of bytes i)) feature) refl
     where
-      by-feature : (own : Bool) → eqb (featureIn (recordOf bytes i)) feature ≡ own → (r : Pass) → LaterOf bytes (i + 1) r → PassOf bytes low r
-      by-feature true own = refused-at b.event (strange b.event.kind) b.is (b.sorted own) (λ f fs o. record { number = 21; is = refl })
+      by-feature : (own : Bool) → eqb (feature_in (record_of bytes i)) feature ≡ own → (r : Pass) → LaterOf bytes (i + 1) r → PassOf bytes low r
+      by-feature true own = refused_at b.event (strange b.event.kind) b.is (b.sorted own) (λ f fs o. record { number = 21; is = refl })
       by-feature false own =
-          fault-at b.event b.is (λ l. ap (λ (one : Bool). one && nested anyDepth (a.puts (b.event ∷ l))) (alike-off bytes i within-list feature (alike (recordsIn bytes) 0 bytes feature) a.one own))
+          fault_at b.event b.is (λ l. ap (λ (one : Bool). one && nested any_depth (a.puts (b.event ∷ l))) (alike_off bytes i within_list feature (alike (records_in bytes) 0 bytes feature) a.one own))
 
-  pub malformed-stops : heard (recordOf bytes i) ≡ Unheard → eventsIn bytes ≡ none
-  malformed-stops h = listed-none bytes i within-list (eventsIn bytes) a.puts a.listing h
+  pub malformed_stops : heard (record_of bytes i) ≡ Unheard → events_in bytes ≡ none
+  malformed_stops h = listed_none bytes i within_list (events_in bytes) a.puts a.listing h
 
-  counted-as : {t : Told} (b : Behind (recordOf bytes i) feature t) {v : Event} → eqb (featureIn (recordOf bytes i)) feature ≡ true → read b.event ≡ v → Counted bytes i feature b.event v
-  counted-as b own reads = record { less = within-list; is = b.is; own = own; reads = reads }
+  counted_as : {t : Told} (b : Behind (record_of bytes i) feature t) {v : Event} → eqb (feature_in (record_of bytes i)) feature ≡ true → read b.event ≡ v → Counted bytes i feature b.event v
+  counted_as b own reads = record { less = within_list; is = b.is; own = own; reads = reads }
 
   -- a pair that the machine takes, if its innermost frame is seen
-  pub pair-on : {idx : ℕ} (b : Behind (recordOf bytes i) feature (Pair idx)) → ((f : Frame) (fs : List Frame) → On low a.puts w top stored f fs → In low (length fs) → pairFits f b.sorted.1.x b.sorted.1.y idx ≡ true)
-      → {r : Walk} → ((x y idx : ℕ) → Moved w (pair x y idx) w.height r) → {next : Held} → ((g : Frame) → Is top g → g.done < g.size → Is next (oneMore g)) → Along bytes low feature (i + 1) r next stored
-  pair-on {idx} b seen-fits {r} moved {next} more =
+  pub pair_on : {idx : ℕ} (b : Behind (record_of bytes i) feature (Pair idx)) → ((f : Frame) (fs : List Frame) → On low a.puts w top stored f fs → In low (length fs) → pair_fits f b.sorted.1.x b.sorted.1.y idx ≡ true)
+      → {r : Walk} → ((x y idx : ℕ) → Moved w (pair x y idx) w.height r) → {next : Held} → ((g : Frame) → Is top g → g.done < g.size → Is next (one_more g)) → Along bytes low feature (i + 1) r next stored
+  pair_on {idx} b seen-fits {r} moved {next} more =
       let p = b.sorted.1 in
-      counted a (counted-as b b.sorted.0 p.reads) (moved p.x p.y idx) (omega (arith, a.high, a.few)) (λ f fs o. go f fs o (pairFits f p.x p.y idx) refl)
+      counted a (counted_as b b.sorted.0 p.reads) (moved p.x p.y idx) (omega (arith, a.high, a.few)) (λ f fs o. go f fs o (pair_fits f p.x p.y idx) refl)
     where
-      go : (f : Frame) (fs : List Frame) → On low a.puts w top stored f fs → (fits : Bool) → pairFits f b.sorted.1.x b.sorted.1.y idx ≡ fits → Stands low (λ l. a.puts (b.event ∷ l)) r next stored
+      go : (f : Frame) (fs : List Frame) → On low a.puts w top stored f fs → (fits : Bool) → pair_fits f b.sorted.1.x b.sorted.1.y idx ≡ fits → Stands low (λ l. a.puts (b.event ∷ l)) r next stored
       go f fs o true fit =
           let p = b.sorted.1 in
-          let room = ltb-true f.done f.size (five (ofPairs f.type) (ltb f.done f.size) (eqb idx f.done) (ltb p.x limit64) (ltb p.y limit64) fit).1 in
-          taken-on o b.event (pair p.x p.y idx) p.reads (moved p.x p.y idx) (oneMore f) fs (ap (λ (t : Bool). cond t (taken (within (oneMore f) fs)) (refused 21)) fit) o.tall (λ seen. more f (o.innermost seen) room) o.kept
+          let room = ltb-true f.done f.size (five (of_pairs f.type) (ltb f.done f.size) (eqb idx f.done) (ltb p.x limit64) (ltb p.y limit64) fit).1 in
+          taken_on o b.event (pair p.x p.y idx) p.reads (moved p.x p.y idx) (one_more f) fs (ap (λ (t : Bool). cond t (taken (within (one_more f) fs)) (refused 21)) fit) o.tall (λ seen. more f (o.innermost seen) room) o.kept
       go f fs o false fit =
           let p = b.sorted.1 in
-          refused-on o b.event (pair p.x p.y idx) p.reads (moved p.x p.y idx) (record { number = 21; is = ap (λ (t : Bool). cond t (taken (within (oneMore f) fs)) (refused 21)) fit })
+          refused_on o b.event (pair p.x p.y idx) p.reads (moved p.x p.y idx) (record { number = 21; is = ap (λ (t : Bool). cond t (taken (within (one_more f) fs)) (refused 21)) fit })
           (λ seen. never (sym fit ∙ seen-fits f fs o seen)) a.high
 
   module _ {k : ℕ} (s : SlotOf low w.height k) (ok : Bool) where
@@ -111,110 +111,110 @@ module _ {bytes : List ℕ} {low feature i : ℕ} {w : Walk} {top : Held} {store
     seen_here f fs o seen = subst (λ (n : ℕ). In low n) (sym o.tall) seen
 
     passed : (f : Frame) (fs : List Frame) (fits : Bool) → On low a.puts w top stored f fs → (Is top f → ok ≡ fits) → (ltb k 256 && not ok) ≡ false → fits ≡ false → In low (length fs) → ⊥
-    passed f fs fits o asked passes no-fit seen = never (sym no-fit ∙ sym (asked (o.innermost seen)) ∙ seen-passes low w.height k s (seen_here f fs o seen) ok passes)
+    passed f fs fits o asked passes no-fit seen = never (sym no-fit ∙ sym (asked (o.innermost seen)) ∙ seen_passes low w.height k s (seen_here f fs o seen) ok passes)
 
     failed : (f : Frame) (fs : List Frame) (fits : Bool) → On low a.puts w top stored f fs → (Is top f → ok ≡ fits) → (ltb k 256 && not ok) ≡ true → fits ≡ false
     failed f fs fits o asked fails =
-        let t = seen-fails low w.height k s ok fails in
+        let t = seen_fails low w.height k s ok fails in
         sym (asked (o.innermost (subst (λ (n : ℕ). In low n) o.tall t.seen))) ∙ t.fails
 
     -- ---- a pair
-    module _ {idx : ℕ} (b : Behind (recordOf bytes i) feature (Pair idx)) (asked : (g : Frame) → Is top g → (x y : ℕ) → x < limit64 → y < limit64 → ok ≡ pairFits g x y idx) where
-      pub pair-stops : (ltb k 256 && not ok) ≡ true → (r : Pass) → LaterOf bytes (i + 1) r → PassOf bytes low r
-      pair-stops fails =
+    module _ {idx : ℕ} (b : Behind (record_of bytes i) feature (Pair idx)) (asked : (g : Frame) → Is top g → (x y : ℕ) → x < limit64 → y < limit64 → ok ≡ pair_fits g x y idx) where
+      pub pair_stops : (ltb k 256 && not ok) ≡ true → (r : Pass) → LaterOf bytes (i + 1) r → PassOf bytes low r
+      pair_stops fails =
           let p = b.sorted.1 in
-          refused-at b.event (pair p.x p.y idx) b.is p.reads (λ f fs o. record {
+          refused_at b.event (pair p.x p.y idx) b.is p.reads (λ f fs o. record {
             number = 21;
-            is = ap (λ (t : Bool). cond t (taken (within (oneMore f) fs)) (refused 21)) (failed f fs (pairFits f p.x p.y idx) o (λ is. asked f is p.x p.y p.x_fits p.y-fits) fails);
+            is = ap (λ (t : Bool). cond t (taken (within (one_more f) fs)) (refused 21)) (failed f fs (pair_fits f p.x p.y idx) o (λ is. asked f is p.x p.y p.x_fits p.y_fits) fails);
           })
 
-      pub pair-counts : (ltb k 256 && not ok) ≡ false → {r : Walk} → ((x y idx : ℕ) → Moved w (pair x y idx) w.height r) → {next : Held} → ((g : Frame) → Is top g → g.done < g.size → Is next (oneMore g)) → Along bytes low feature (i + 1) r next stored
-      pair-counts passes moved more =
+      pub pair_counts : (ltb k 256 && not ok) ≡ false → {r : Walk} → ((x y idx : ℕ) → Moved w (pair x y idx) w.height r) → {next : Held} → ((g : Frame) → Is top g → g.done < g.size → Is next (one_more g)) → Along bytes low feature (i + 1) r next stored
+      pair_counts passes moved more =
           let p = b.sorted.1 in
-          pair-on b (λ f fs o seen. sym (asked f (o.innermost seen) p.x p.y p.x_fits p.y-fits) ∙ seen-passes low w.height k s (seen_here f fs o seen) ok passes) moved more
+          pair_on b (λ f fs o seen. sym (asked f (o.innermost seen) p.x p.y p.x_fits p.y_fits) ∙ seen_passes low w.height k s (seen_here f fs o seen) ok passes) moved more
 
     -- ---- a begin
-    module _ {kind : ℕ} {tagged : Bool} {size idx : ℕ} (b : Behind (recordOf bytes i) feature (Begin kind tagged size idx))
+    module _ {kind : ℕ} {tagged : Bool} {size idx : ℕ} (b : Behind (record_of bytes i) feature (Begin kind tagged size idx))
         (asked : (g : Frame) → Is top g → (type : GeometryType) → kind ≡ number type → (level : ℕ) → ok ≡ begins (ample true true) level g type tagged size idx) where
-      asked-so : (f : Frame) (level : ℕ) → Is top f → ok ≡ begins anyDepth level f b.sorted.1.type tagged size idx
-      asked-so f level is =
+      asked_so : (f : Frame) (level : ℕ) → Is top f → ok ≡ begins any_depth level f b.sorted.1.type tagged size idx
+      asked_so f level is =
           let p = b.sorted.1 in
-          asked f is p.type p.named level ∙ ap (λ (R : Rules). begins R level f p.type tagged size idx) (rules-of (λ level. false))
+          asked f is p.type p.named level ∙ ap (λ (R : Rules). begins R level f p.type tagged size idx) (rules_of_lem (λ level. false))
 
-      pub begin-stops : (ltb k 256 && not ok) ≡ true → (r : Pass) → LaterOf bytes (i + 1) r → PassOf bytes low r
-      begin-stops fails =
+      pub begin_stops : (ltb k 256 && not ok) ≡ true → (r : Pass) → LaterOf bytes (i + 1) r → PassOf bytes low r
+      begin_stops fails =
           let p = b.sorted.1 in
-          refused-at b.event (begin p.type tagged size idx) b.is p.reads
-          (λ f fs o. begin-refused anyDepth (place anyDepth f.type (suc (length fs)) p.type size) f fs p.type tagged size idx (failed f fs (begins anyDepth (suc (length fs)) f p.type tagged size idx) o (asked-so f (suc (length fs))) fails))
+          refused_at b.event (begin p.type tagged size idx) b.is p.reads
+          (λ f fs o. begin-refused any_depth (place any_depth f.type (suc (length fs)) p.type size) f fs p.type tagged size idx (failed f fs (begins any_depth (suc (length fs)) f p.type tagged size idx) o (asked_so f (suc (length fs))) fails))
 
-      pub begin-counts : (ltb k 256 && not ok) ≡ false → k < length stored → {r : Walk} → ((type : GeometryType) → kind ≡ number type → (idx : ℕ) → Moved w (begin type tagged size idx) (w.height + 1) r)
+      pub begin_counts : (ltb k 256 && not ok) ≡ false → k < length stored → {r : Walk} → ((type : GeometryType) → kind ≡ number type → (idx : ℕ) → Moved w (begin type tagged size idx) (w.height + 1) r)
           → {next : Held} → ((type : GeometryType) → kind ≡ number type → Is next (frame type tagged idx (count type size) 0)) → Along bytes low feature (i + 1) r next (set stored k top)
-      begin-counts passes room {r} moved {next} opened =
+      begin_counts passes room {r} moved {next} opened =
           let p = b.sorted.1 in
-          counted a (counted-as b b.sorted.0 p.reads) (moved p.type p.named idx) (omega (arith, a.high, a.few)) (λ f fs o. go f fs o (begins anyDepth (suc (length fs)) f p.type tagged size idx) refl)
+          counted a (counted_as b b.sorted.0 p.reads) (moved p.type p.named idx) (omega (arith, a.high, a.few)) (λ f fs o. go f fs o (begins any_depth (suc (length fs)) f p.type tagged size idx) refl)
         where
-          go : (f : Frame) (fs : List Frame) → On low a.puts w top stored f fs → (fits : Bool) → begins anyDepth (suc (length fs)) f b.sorted.1.type tagged size idx ≡ fits → Stands low (λ l. a.puts (b.event ∷ l)) r next (set stored k top)
+          go : (f : Frame) (fs : List Frame) → On low a.puts w top stored f fs → (fits : Bool) → begins any_depth (suc (length fs)) f b.sorted.1.type tagged size idx ≡ fits → Stands low (λ l. a.puts (b.event ∷ l)) r next (set stored k top)
           go f fs o true fit =
               let p = b.sorted.1 in
-              taken-on o b.event (begin p.type tagged size idx) p.reads (moved p.type p.named idx) (frame p.type tagged idx (count p.type size) 0) (f ∷ fs)
-              (begin-goes anyDepth (place anyDepth f.type (suc (length fs)) p.type size) f fs p.type tagged size idx fit)
+              taken_on o b.event (begin p.type tagged size idx) p.reads (moved p.type p.named idx) (frame p.type tagged idx (count p.type size) 0) (f ∷ fs)
+              (begin_goes any_depth (place any_depth f.type (suc (length fs)) p.type size) f fs p.type tagged size idx fit)
               (omega (arith, o.tall)) (λ seen. opened p.type p.named)
               (kept_on low k top stored f fs room (subst (λ (n : ℕ). SlotOf low n k) o.tall s) o.innermost o.kept)
           go f fs o false fit =
               let p = b.sorted.1 in
-              refused-on o b.event (begin p.type tagged size idx) p.reads (moved p.type p.named idx)
-              (begin-refused anyDepth (place anyDepth f.type (suc (length fs)) p.type size) f fs p.type tagged size idx fit)
-              (passed f fs (begins anyDepth (suc (length fs)) f p.type tagged size idx) o (asked-so f (suc (length fs))) passes fit) a.high
+              refused_on o b.event (begin p.type tagged size idx) p.reads (moved p.type p.named idx)
+              (begin-refused any_depth (place any_depth f.type (suc (length fs)) p.type size) f fs p.type tagged size idx fit)
+              (passed f fs (begins any_depth (suc (length fs)) f p.type tagged size idx) o (asked_so f (suc (length fs))) passes fit) a.high
 
     -- ---- an end
-    module _ {kind : ℕ} {tagged : Bool} {idx : ℕ} (b : Behind (recordOf bytes i) feature (End kind tagged idx)) (asked : (g : Frame) → Is top g → (type : GeometryType) → kind ≡ number type → ok ≡ endFits g type tagged idx) where
-      pub end-stops : (eqb w.height 0 || (ltb k 256 && not ok)) ≡ true → (r : Pass) → LaterOf bytes (i + 1) r → PassOf bytes low r
-      end-stops fails = let p = b.sorted.1 in refused-at b.event (end p.type tagged idx) b.is p.reads stops
+    module _ {kind : ℕ} {tagged : Bool} {idx : ℕ} (b : Behind (record_of bytes i) feature (End kind tagged idx)) (asked : (g : Frame) → Is top g → (type : GeometryType) → kind ≡ number type → ok ≡ end_fits g type tagged idx) where
+      pub end_stops : (eqb w.height 0 || (ltb k 256 && not ok)) ≡ true → (r : Pass) → LaterOf bytes (i + 1) r → PassOf bytes low r
+      end_stops fails = let p = b.sorted.1 in refused_at b.event (end p.type tagged idx) b.is p.reads stops
         where
-          stops : (f : Frame) (fs : List Frame) → On low a.puts w top stored f fs → Refused (step anyDepth (within f fs) (end b.sorted.1.type tagged idx))
+          stops : (f : Frame) (fs : List Frame) → On low a.puts w top stored f fs → Refused (step any_depth (within f fs) (end b.sorted.1.type tagged idx))
           stops f [] o = record { number = 21; is = refl }
           stops f (g ∷ fs) o =
               let p = b.sorted.1 in
-              let open-still : eqb w.height 0 ≡ false = ne_eqb w.height 0 (λ z. omega (arith, o.tall, z)) in
+              let open_still : eqb w.height 0 ≡ false = ne_eqb w.height 0 (λ z. omega (arith, o.tall, z)) in
               record {
                 number = 21;
-                is = ap (λ (t : Bool). cond t (taken (within (oneMore g) fs)) (refused 21)) (failed f (g ∷ fs) (endFits f p.type tagged idx) o (λ is. asked f is p.type p.named) (other (eqb w.height 0) (ltb k 256 && not ok) open-still fails));
+                is = ap (λ (t : Bool). cond t (taken (within (one_more g) fs)) (refused 21)) (failed f (g ∷ fs) (end_fits f p.type tagged idx) o (λ is. asked f is p.type p.named) (other (eqb w.height 0) (ltb k 256 && not ok) open_still fails));
               }
 
-      pub end-counts : (eqb w.height 0 || (ltb k 256 && not ok)) ≡ false → {j : ℕ} → SlotOf low (w.height - 1) j → {r : Walk} → ((type : GeometryType) (tagged : Bool) (idx : ℕ) → Moved w (end type tagged idx) (w.height - 1) r)
-          → {next : Held} (d : Held) → ((g : Frame) → Is (get_or stored j d) g → g.done < g.size → Is next (oneMore g)) → Along bytes low feature (i + 1) r next stored
-      end-counts passes {j} below {r} moved {next} d more =
+      pub end_counts : (eqb w.height 0 || (ltb k 256 && not ok)) ≡ false → {j : ℕ} → SlotOf low (w.height - 1) j → {r : Walk} → ((type : GeometryType) (tagged : Bool) (idx : ℕ) → Moved w (end type tagged idx) (w.height - 1) r)
+          → {next : Held} (d : Held) → ((g : Frame) → Is (get_or stored j d) g → g.done < g.size → Is next (one_more g)) → Along bytes low feature (i + 1) r next stored
+      end_counts passes {j} below {r} moved {next} d more =
           let p = b.sorted.1 in
-          counted a (counted-as b b.sorted.0 p.reads) (moved p.type tagged idx) (omega (arith, a.high, a.few)) go
+          counted a (counted_as b b.sorted.0 p.reads) (moved p.type tagged idx) (omega (arith, a.high, a.few)) go
         where
           sound : (f g : Frame) (fs : List Frame) → On low a.puts w top stored f (g ∷ fs) → g.done < g.size
-          sound f g fs o = (reached-sound anyDepth (map read (a.puts [])) (within f (g ∷ fs)) (run-reached anyDepth (map read (a.puts [])) (within f (g ∷ fs)) (o.goes [] ∙ course-none anyDepth (within f (g ∷ fs))))).1.1
+          sound f g fs o = (reached_sound any_depth (map read (a.puts [])) (within f (g ∷ fs)) (run-reached any_depth (map read (a.puts [])) (within f (g ∷ fs)) (o.goes [] ∙ course_none any_depth (within f (g ∷ fs))))).1.1
 
-          again : (f g : Frame) (fs : List Frame) → On low a.puts w top stored f (g ∷ fs) → In low (length fs) → Is next (oneMore g)
+          again : (f g : Frame) (fs : List Frame) → On low a.puts w top stored f (g ∷ fs) → In low (length fs) → Is next (one_more g)
           again f g fs o seen =
               let lower : w.height - 1 ≡ length fs = omega (arith, o.tall) in
               let place : j ≡ length fs - low = below.seen (subst (λ (n : ℕ). In low n) (sym lower) seen) ∙ ap (λ (n : ℕ). n - low) lower in
               more g (subst (λ (n : ℕ). Is (get_or stored n d) g) (sym place) (o.kept.0 seen d)) (sound f g fs o)
 
-          by-test : (f g : Frame) (fs : List Frame) → On low a.puts w top stored f (g ∷ fs) → (fits : Bool) → endFits f b.sorted.1.type tagged idx ≡ fits → Stands low (λ l. a.puts (b.event ∷ l)) r next stored
+          by-test : (f g : Frame) (fs : List Frame) → On low a.puts w top stored f (g ∷ fs) → (fits : Bool) → end_fits f b.sorted.1.type tagged idx ≡ fits → Stands low (λ l. a.puts (b.event ∷ l)) r next stored
           by-test f g fs o true fit =
               let p = b.sorted.1 in
-              taken-on o b.event (end p.type tagged idx) p.reads (moved p.type tagged idx) (oneMore g) fs (ap (λ (t : Bool). cond t (taken (within (oneMore g) fs)) (refused 21)) fit) (omega (arith, o.tall)) (again f g fs o) o.kept.1
+              taken_on o b.event (end p.type tagged idx) p.reads (moved p.type tagged idx) (one_more g) fs (ap (λ (t : Bool). cond t (taken (within (one_more g) fs)) (refused 21)) fit) (omega (arith, o.tall)) (again f g fs o) o.kept.1
           by-test f g fs o false fit =
               let p = b.sorted.1 in
-              refused-on o b.event (end p.type tagged idx) p.reads (moved p.type tagged idx) (record { number = 21; is = ap (λ (t : Bool). cond t (taken (within (oneMore g) fs)) (refused 21)) fit })
-              (passed f (g ∷ fs) (endFits f p.type tagged idx) o (λ is. asked f is p.type p.named) (neither (eqb w.height 0) (ltb k 256 && not ok) passes).1 fit) a.high
+              refused_on o b.event (end p.type tagged idx) p.reads (moved p.type tagged idx) (record { number = 21; is = ap (λ (t : Bool). cond t (taken (within (one_more g) fs)) (refused 21)) fit })
+              (passed f (g ∷ fs) (end_fits f p.type tagged idx) o (λ is. asked f is p.type p.named) (neither (eqb w.height 0) (ltb k 256 && not ok) passes).1 fit) a.high
 
           go : (f : Frame) (fs : List Frame) → On low a.puts w top stored f fs → Stands low (λ l. a.puts (b.event ∷ l)) r next stored
           go f [] o = absurd (eqb-false w.height 0 (neither (eqb w.height 0) (ltb k 256 && not ok) passes).0 o.tall)
-          go f (g ∷ fs) o = by-test f g fs o (endFits f b.sorted.1.type tagged idx) refl
+          go f (g ∷ fs) o = by-test f g fs o (end_fits f b.sorted.1.type tagged idx) refl
 
 -- ---- where it starts
 pub begun : {bytes : List ℕ} {low feature : ℕ} {w : Walk} {top : Held} {stored : List Held} → w ≡ started → Is top (outside 0) → Along bytes low feature 0 w top stored
 begun {bytes} {low} {feature} {w} {top} {stored} e is = subst (λ (w : Walk). Along bytes low feature 0 w top stored) (sym e) (record {
   puts = λ l. l;
-  listing = ap (λ (n : ℕ). listed n 0 bytes) (sym (sub-zero (recordsIn bytes))) ∙ lifted-self (listed (recordsIn bytes - 0) 0 bytes);
-  one = ap (λ (n : ℕ). alike n 0 bytes feature) (sym (sub-zero (recordsIn bytes)));
+  listing = ap (λ (n : ℕ). listed n 0 bytes) (sym (sub-zero (records_in bytes))) ∙ lifted_self (listed (records_in bytes - 0) 0 bytes);
+  one = ap (λ (n : ℕ). alike n 0 bytes feature) (sym (sub-zero (records_in bytes)));
   long = λ l. omega arith;
   high = omega arith;
   few = omega arith;
@@ -229,17 +229,17 @@ spelled_none n k = omega arith
 
 deep_is : (puts : List Flat → List Flat) (s : State) → closes (reached s) ≡ true → (deep : Bool) → Shallow deep puts s → deep ≡ not (nested sixteen (puts []))
 deep_is puts s done true h = sym (ap not (nested-course sixteen (puts []) ∙ h []))
-deep_is puts s done false h = sym (ap not (nested-course sixteen (puts []) ∙ ap closes (h [] ∙ course-none sixteen s) ∙ done))
+deep_is puts s done false h = sym (ap not (nested-course sixteen (puts []) ∙ ap closes (h [] ∙ course_none sixteen s) ∙ done))
 
-module _ {bytes : List ℕ} {low feature i : ℕ} {w : Walk} {top : Held} {stored : List Held} (whole : length bytes % 64 ≡ 0) (first : feature ≡ featureIn (recordOf bytes 0)) (few : i ≤ length bytes / 64) (over : length bytes / 64 ≤ i) (a : Along bytes low feature i w top stored) where
-  no_more : recordsIn bytes ≤ i
-  no_more = omega (arith, whole-records bytes whole)
+module _ {bytes : List ℕ} {low feature i : ℕ} {w : Walk} {top : Held} {stored : List Held} (whole : length bytes % 64 ≡ 0) (first : feature ≡ feature_in (record_of bytes 0)) (few : i ≤ length bytes / 64) (over : length bytes / 64 ≤ i) (a : Along bytes low feature i w top stored) where
+  no_more : records_in bytes ≤ i
+  no_more = omega (arith, whole_records bytes whole)
 
-  all_listed : eventsIn bytes ≡ some (a.puts [])
-  all_listed = listed-ends bytes i no_more (eventsIn bytes) a.puts a.listing
+  all_listed : events_in bytes ≡ some (a.puts [])
+  all_listed = listed-ends bytes i no_more (events_in bytes) a.puts a.listing
 
-  stood-at : (f : Frame) (fs : List Frame) → On low a.puts w top stored f fs → course anyDepth (map read (a.puts [])) start ≡ reached (within f fs)
-  stood-at f fs o = o.goes [] ∙ course-none anyDepth (within f fs)
+  stood_at : (f : Frame) (fs : List Frame) → On low a.puts w top stored f fs → course any_depth (map read (a.puts [])) start ≡ reached (within f fs)
+  stood_at f fs o = o.goes [] ∙ course_none any_depth (within f fs)
 
   -- the lowest window sees whether the machine is closed
   closed-by : low ≡ 0 → (f : Frame) (fs : List Frame) → On low a.puts w top stored f fs → closes (reached (within f fs)) ≡ (eqb w.height 0 && eqb top.done 1)
@@ -254,29 +254,29 @@ module _ {bytes : List ℕ} {low feature i : ℕ} {w : Walk} {top : Held} {store
       record {
         events = a.puts [];
         listing = all_listed;
-        bad = ap (λ (b : Bool). oneFeature bytes && b) (nested-course anyDepth (a.puts []) ∙ falls (eqb-true low 0 t.0) (not-true (eqb w.height 0 && eqb top.done 1) t.1) a.stands) ∙ and-false (oneFeature bytes);
+        bad = ap (λ (b : Bool). one_feature bytes && b) (nested-course any_depth (a.puts []) ∙ falls (eqb-true low 0 t.0) (not-true (eqb w.height 0 && eqb top.done 1) t.1) a.stands) ∙ and_false (one_feature bytes);
       }
     where
-      falls : low ≡ 0 → (eqb w.height 0 && eqb top.done 1) ≡ false → Stands low a.puts w top stored → closes (course anyDepth (map read (a.puts [])) start) ≡ false
-      falls zero-low not_yet (on f fs o) = ap closes (stood-at f fs o) ∙ closed-by zero-low f fs o ∙ not_yet
+      falls : low ≡ 0 → (eqb w.height 0 && eqb top.done 1) ≡ false → Stands low a.puts w top stored → closes (course any_depth (map read (a.puts [])) start) ≡ false
+      falls zero-low not_yet (on f fs o) = ap closes (stood_at f fs o) ∙ closed-by zero-low f fs o ∙ not_yet
       falls zero-low not_yet (off o) = ap closes (o.falls [])
 
-  pub ends-sound : (eqb low 0 && not (eqb w.height 0 && eqb top.done 1)) ≡ false → Passed bytes low w.highest w.deep w.length
-  ends-sound h = record {
+  pub ends_sound : (eqb low 0 && not (eqb w.height 0 && eqb top.done 1)) ≡ false → Passed bytes low w.highest w.deep w.length
+  ends_sound h = record {
     events = a.puts [];
     listing = all_listed;
-    one = subst (λ (n : ℕ). alike (recordsIn bytes) 0 bytes n ≡ true) first (alike-ends bytes i no_more feature (alike (recordsIn bytes) 0 bytes feature) a.one);
+    one = subst (λ (n : ℕ). alike (records_in bytes) 0 bytes n ≡ true) first (alike-ends bytes i no_more feature (alike (records_in bytes) 0 bytes feature) a.one);
     few = omega (arith, a.few);
-    long-is = sym (a.long [] ∙ spelled_none w.length (around_of w));
+    long_is = sym (a.long [] ∙ spelled_none w.length (around_of w));
     ends = by_state a.stands;
   }
     where
-      closed-so : low ≡ 0 → (eqb w.height 0 && eqb top.done 1) ≡ true
-      closed-so zero-low = not-false (eqb w.height 0 && eqb top.done 1) (sym (ap (λ (n : ℕ). eqb n 0 && not (eqb w.height 0 && eqb top.done 1)) zero-low) ∙ h)
+      closed_so : low ≡ 0 → (eqb w.height 0 && eqb top.done 1) ≡ true
+      closed_so zero-low = not-false (eqb w.height 0 && eqb top.done 1) (sym (ap (λ (n : ℕ). eqb n 0 && not (eqb w.height 0 && eqb top.done 1)) zero-low) ∙ h)
 
       by_state : Stands low a.puts w top stored → Ends (a.puts []) low w.highest w.deep
       by_state (on f fs o) =
-          stood (within f fs) (stood-at f fs o) (λ zero-low.
-          let done = closed-by zero-low f fs o ∙ closed-so zero-low in
-          (nested-course anyDepth (a.puts []) ∙ ap closes (stood-at f fs o) ∙ done, deep_is a.puts (within f fs) done w.deep o.shallow))
+          stood (within f fs) (stood_at f fs o) (λ zero-low.
+          let done = closed-by zero-low f fs o ∙ closed_so zero-low in
+          (nested-course any_depth (a.puts []) ∙ ap closes (stood_at f fs o) ∙ done, deep_is a.puts (within f fs) done w.deep o.shallow))
       by_state (off o) = beyond o.height (o.falls []) o.unseen o.most

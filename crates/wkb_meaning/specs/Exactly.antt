@@ -2,24 +2,24 @@
 use Rattle.std.specs.Prelude.{◌≡◌, ◌↔◌, List, ℕ}
 use Rattle.std.proofs.Common.{sym, ap, ◌∙◌}
 use Rattle.laws.specs.Bytes.{Bytes}
-use Rattle.laws.specs.Cut.{recordsOf, number_of}
+use Rattle.laws.specs.Cut.{records_of, number_of}
 use Rattle.geometries.specs.Told.{told, told-records, told-number}
-use Rattle.planar.specs.Within.{planarEvents}
-use Rattle.wkb_reader.specs.Reading.{readingR}
+use Rattle.planar.specs.Within.{planar_events}
+use Rattle.wkb_reader.specs.Reading.{reading_r}
 use Rattle.wkb_meaning.specs.Forward.{reading-says}
-use Rattle.wkb_meaning.specs.Backward.{MeaningWithin, reading-means}
+use Rattle.wkb_meaning.specs.Backward.{MeaningWithin, reading_means}
 
 -- the bytes are read as the events of what they mean
-pub meaning-said : (l : List ℕ) (m : MeaningWithin l) → readingR l ≡ told (planarEvents m.meaning.n m.meaning.geometry)
-meaning-said l m =
+pub meaning_said : (l : List ℕ) (m : MeaningWithin l) → reading_r l ≡ told (planar_events m.meaning.n m.meaning.geometry)
+meaning_said l m =
     let g = m.meaning in
-    ap readingR (sym g.spelled) ∙ reading-says g.n g.geometry g.orders g.fits m.within
+    ap reading_r (sym g.spelled) ∙ reading-says g.n g.geometry g.orders g.fits m.within
 
-pub zero-exactly : (l : List ℕ) → Bytes l → (number_of (readingR l) ≡ 0) ↔ MeaningWithin l
-zero-exactly l bytes = (reading-means l bytes, λ m. ap number_of (meaning-said l m) ∙ told-number (planarEvents m.meaning.n m.meaning.geometry))
+pub zero_exactly : (l : List ℕ) → Bytes l → (number_of (reading_r l) ≡ 0) ↔ MeaningWithin l
+zero_exactly l bytes = (reading_means l bytes, λ m. ap number_of (meaning_said l m) ∙ told-number (planar_events m.meaning.n m.meaning.geometry))
 
-records-are : (l : List ℕ) (m : MeaningWithin l) → recordsOf (readingR l) ≡ planarEvents m.meaning.n m.meaning.geometry
-records-are l m = ap recordsOf (meaning-said l m) ∙ told-records (planarEvents m.meaning.n m.meaning.geometry)
+records_are : (l : List ℕ) (m : MeaningWithin l) → records_of (reading_r l) ≡ planar_events m.meaning.n m.meaning.geometry
+records_are l m = ap records_of (meaning_said l m) ∙ told-records (planar_events m.meaning.n m.meaning.geometry)
 
-pub one-meaning : (l : List ℕ) (m k : MeaningWithin l) → planarEvents m.meaning.n m.meaning.geometry ≡ planarEvents k.meaning.n k.meaning.geometry
-one-meaning l m k = sym (records-are l m) ∙ records-are l k
+pub one_meaning : (l : List ℕ) (m k : MeaningWithin l) → planar_events m.meaning.n m.meaning.geometry ≡ planar_events k.meaning.n k.meaning.geometry
+one_meaning l m k = sym (records_are l m) ∙ records_are l k

@@ -8,12 +8,12 @@ use Rattle.laws.specs.Script.{stop}
 use Rattle.laws.specs.Bytes.{Bytes, part_bytes}
 use Rattle.laws.specs.Cut.{number_of}
 use Rattle.planar.specs.Fits.{Each, Row}
-use Rattle.wkb.specs.Order.{numberBytes, value_of}
-use Rattle.wkb.specs.Wkb.{Lays, uint32, head, joinedIn, counted}
+use Rattle.wkb.specs.Order.{number_bytes, value_of}
+use Rattle.wkb.specs.Wkb.{Lays, uint32, head, joined_in, counted}
 use Rattle.wkb.specs.declared.order.Order.{Order}
 use Rattle.wkb.specs.declared.order.Order.TheVariants.{Big, Little}
-use Rattle.wkb_reader.specs.Reading.{Next, Reads, refuse, field, several, groupR, order_of, typeR, headR}
-use Rattle.wkb_meaning.specs.Fields.{number-value, value-lt}
+use Rattle.wkb_reader.specs.Reading.{Next, Reads, refuse, field, several, group_r, order_of, type_r, head_r}
+use Rattle.wkb_meaning.specs.Fields.{number_value, value_lt}
 use Rattle.wkb_meaning.specs.Parts.{free, joined_free}
 
 pub record Found (X : Type 0) (lays : X → Lays) (next : X → Next) (l : List ℕ) : Type 0 where
@@ -31,19 +31,19 @@ behind before as-whole e same found =
 
 -- ---- fields and tests: a refusal is never 0, so each field was there and each test passed
 pub field_found : (o : Order) (wide : ℕ) (f : ℕ → Reads) (l : List ℕ) (next : Next) → Bytes l → number_of (field o wide f l next) ≡ 0
-    → Found ((v : ℕ) × (v < 256 ^ wide)) (λ v k. numberBytes o wide v.0 ++ k) (λ v rest. f v.0 rest next) l
+    → Found ((v : ℕ) × (v < 256 ^ wide)) (λ v k. number_bytes o wide v.0 ++ k) (λ v rest. f v.0 rest next) l
 unfolding field number_of
 field_found o wide f l next bytes h = go (leb wide (length l)) refl h
   where
     go : (b : Bool) → leb wide (length l) ≡ b → number_of (cond b (f (value_of o (take wide l)) (drop wide l) next) (stop 18)) ≡ 0
-        → Found ((v : ℕ) × (v < 256 ^ wide)) (λ v k. numberBytes o wide v.0 ++ k) (λ v rest. f v.0 rest next) l
+        → Found ((v : ℕ) × (v < 256 ^ wide)) (λ v k. number_bytes o wide v.0 ++ k) (λ v rest. f v.0 rest next) l
     go false e h = absurd (omega arith)
     go true e h =
         let long : length (take wide l) ≡ wide = length-take-le wide l (leb-true wide (length l) e) in
         let front = part_bytes wide 0 l bytes in
-        let same = ap (λ (n : ℕ). numberBytes o n (value_of o (take wide l))) (sym long) ∙ number-value o (take wide l) front in
+        let same = ap (λ (n : ℕ). number_bytes o n (value_of o (take wide l))) (sym long) ∙ number_value o (take wide l) front in
         record {
-          thing = (value_of o (take wide l), rw long at (value-lt o (take wide l) front));
+          thing = (value_of o (take wide l), rw long at (value_lt o (take wide l) front));
           rest = drop wide l;
           bytes = λ i. rw (get_or-drop wide l i 0) (bytes (wide + i));
           is = sym (ap (λ (k : List ℕ). k ++ drop wide l) same ∙ take-append-drop wide l);
@@ -65,23 +65,23 @@ pub record Head (least most : ℕ) : Type 0 where
 abbrev pub HeadFound : ℕ → ℕ → (Order → ℕ → Reads) → Next → List ℕ → Type 0
 HeadFound least most f next = Found (Head least most) (λ x. head x.order x.type) (λ x rest. f x.order x.type rest next)
 
-type-found : (o : Order) (least most : ℕ) (f : Order → ℕ → Reads) (l : List ℕ) (next : Next) → Bytes l → number_of (typeR least most f o l next) ≡ 0
+type_found : (o : Order) (least most : ℕ) (f : Order → ℕ → Reads) (l : List ℕ) (next : Next) → Bytes l → number_of (type_r least most f o l next) ≡ 0
     → Found ((type : ℕ) × (least ≤ type) × (type ≤ most)) (λ x. uint32 o x.0) (λ x rest. f o x.0 rest next) l
-unfolding typeR
-type-found o least most f l next bytes h =
+unfolding type_r
+type_found o least most f l next bytes h =
     let found = field_found o 4 _ l next bytes h in
     let v : ℕ = found.thing.0 in
     let so = passed (leb least v && leb v most) (f o v) 18 found.rest next found.goes in
     let there = both (leb least v) (leb v most) so.0 in
     record { thing = (v, leb-true least v there.0, leb-true v most there.1); rest = found.rest; bytes = found.bytes; is = found.is; goes = so.1 }
 
-pub head-found : (least most : ℕ) (f : Order → ℕ → Reads) (l : List ℕ) (next : Next) → Bytes l → number_of (headR least most f l next) ≡ 0 → HeadFound least most f next l
-unfolding headR
+pub head-found : (least most : ℕ) (f : Order → ℕ → Reads) (l : List ℕ) (next : Next) → Bytes l → number_of (head_r least most f l next) ≡ 0 → HeadFound least most f next l
+unfolding head_r
 head-found least most f l next bytes h =
     let found = field_found Little 1 _ l next bytes h in
     let v : ℕ = found.thing.0 in
-    let so = passed (leb v 1) (typeR least most f (order_of v)) 18 found.rest next found.goes in
-    by-mark v (leb-true v 1 so.0) found.rest found.is (type-found (order_of v) least most f found.rest next found.bytes so.1)
+    let so = passed (leb v 1) (type_r least most f (order_of v)) 18 found.rest next found.goes in
+    by-mark v (leb-true v 1 so.0) found.rest found.is (type_found (order_of v) least most f found.rest next found.bytes so.1)
   where
     by-mark : (v : ℕ) → v ≤ 1 → (rest : List ℕ) → l ≡ v % 256 ∷ rest → Found ((type : ℕ) × (least ≤ type) × (type ≤ most)) (λ x. uint32 (order_of v) x.0) (λ x k. f (order_of v) x.0 k next) rest → HeadFound least most f next l
     by-mark zero small rest e found =
@@ -103,7 +103,7 @@ abbrev pub Finds : {A : Type 0} → Reads → (P O : A → Type 0) → ((a : A) 
 Finds R P O lays = (l : List ℕ) (next : Next) → Bytes l → number_of (R l next) ≡ 0 → PartFound P O lays next l
 
 module _ {A : Type 0} (P O : A → Type 0) (lays : (a : A) → O a → Lays) (R : ℕ → Reads) (one : (i : ℕ) → Finds (R i) P O lays) where
-  several-found : (n i : ℕ) → Finds (several R n i) (λ xs. (length xs ≡ n) × Each P xs) (Each O) (joinedIn O lays)
+  several-found : (n i : ℕ) → Finds (several R n i) (λ xs. (length xs ≡ n) × Each P xs) (Each O) (joined_in O lays)
   unfolding several
   several-found zero i l next bytes h = record { thing = record { part = []; fact = (refl, tt); order = tt }; rest = l; bytes = bytes; is = refl; goes = h }
   several-found (suc n) i l next bytes h =
@@ -120,8 +120,8 @@ module _ {A : Type 0} (P O : A → Type 0) (lays : (a : A) → O a → Lays) (R 
       }
 
   -- a count that a u32 holds, and so many things
-  pub group-found : (o : Order) (type : ℕ) (tagged : Bool) (i : ℕ) → Finds (groupR o type tagged R i) (Row P) (Each O) (λ xs os k. uint32 o (length xs) (joinedIn O lays xs os k))
-  unfolding groupR number_of
+  pub group-found : (o : Order) (type : ℕ) (tagged : Bool) (i : ℕ) → Finds (group_r o type tagged R i) (Row P) (Each O) (λ xs os k. uint32 o (length xs) (joined_in O lays xs os k))
+  unfolding group_r number_of
   group-found o type tagged i l next bytes h =
       let count = field_found o 4 _ l next bytes h in
       let found = several-found count.thing.0 0 count.rest _ count.bytes count.goes in
@@ -130,12 +130,12 @@ module _ {A : Type 0} (P O : A → Type 0) (lays : (a : A) → O a → Lays) (R 
         thing = record { part = xs.part; fact = (rw xs.fact.0 count.thing.1, xs.fact.1); order = xs.order };
         rest = found.rest;
         bytes = found.bytes;
-        is = count.is ∙ ap (uint32 o count.thing.0) found.is ∙ ap (λ (n : ℕ). uint32 o n (joinedIn O lays xs.part xs.order found.rest)) (sym xs.fact.0);
+        is = count.is ∙ ap (uint32 o count.thing.0) found.is ∙ ap (λ (n : ℕ). uint32 o n (joined_in O lays xs.part xs.order found.rest)) (sym xs.fact.0);
         goes = found.goes;
       }
 
 -- what has no order marks needs no orders to be laid down
 pub counted-found : {A : Type 0} (P : A → Type 0) (f : A → Lays) (R : ℕ → Reads) → ((i : ℕ) → Finds (R i) P free (λ a u. f a))
-    → (o : Order) (type : ℕ) (tagged : Bool) (i : ℕ) → Finds (groupR o type tagged R i) (Row P) free (λ xs u. counted o f xs)
+    → (o : Order) (type : ℕ) (tagged : Bool) (i : ℕ) → Finds (group_r o type tagged R i) (Row P) free (λ xs u. counted o f xs)
 counted-found P f R one o type tagged i l next bytes h =
     behind (λ k. k) (λ x. record { part = x.part; fact = x.fact; order = tt }) refl (λ x k. ap (uint32 o (length x.part)) (joined_free f x.part x.order k)) (group-found P free (λ a u. f a) R one o type tagged i l next bytes h)

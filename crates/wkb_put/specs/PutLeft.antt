@@ -13,98 +13,98 @@ use Rattle.std.proofs.Math.Seq.{sets}
 use Rattle.laws.specs.Runs.{sets-append}
 use Rattle.kinds.specs.Event.{Parsed, WellFormed, Malformed}
 use Rattle.kinds.specs.declared.event.Event.{Event}
-use Rattle.log.specs.Log.{heard, recordOf, recordsIn}
-use Rattle.log.specs.LogLaws.{not-whole}
-use Rattle.nesting.specs.Flat.{is_type, readAs, read}
+use Rattle.log.specs.Log.{heard, record_of, records_in}
+use Rattle.log.specs.LogLaws.{not_whole}
+use Rattle.nesting.specs.Flat.{is_type, read_as, read}
 use Rattle.wkb_written.specs.Spelling.{Around, outermost, pair_of, after, bytes_of, spelled}
-use Rattle.wkb_written.specs.Writing.{before, listed, eventsIn}
-use Rattle.wkb_put.specs.Put.{laid_of, laterThan, orNone, heardEvents, spelledOf, eventsFrom, HeardFrom, runBytes, behindRun, RunLaid}
+use Rattle.wkb_written.specs.Writing.{before, listed, events_in}
+use Rattle.wkb_put.specs.Put.{laid_of, later_than, or_none, heard_events, spelled_of, events_from, HeardFrom, run_bytes, behind_run, RunLaid}
 use Rattle.wkb_put.specs.PutEvent.{laid-pair, later_same}
 
 -- ---- the next record of a list that is heard whole
 pub record NextHeard (bytes : List ℕ) (i : ℕ) : Type 0 where
   pub event : Event
-  pub is : heard (recordOf bytes i) ≡ WellFormed event
-  pub events : eventsFrom bytes i ≡ event ∷ eventsFrom bytes (i + 1)
+  pub is : heard (record_of bytes i) ≡ WellFormed event
+  pub events : events_from bytes i ≡ event ∷ events_from bytes (i + 1)
   pub later : HeardFrom bytes (i + 1)
 
 not_some : {A : Type 0} (a : A) → none ≡ some a → ⊥
 not_some a e = let z : ◌≡◌ {A = ℕ} 0 1 = cc in omega arith
 
-not-both : (e : Event) → Malformed ≡ WellFormed e → ⊥
-not-both e h = let z : ◌≡◌ {A = ℕ} 0 1 = cc in omega arith
+not_both : (e : Event) → Malformed ≡ WellFormed e → ⊥
+not_both e h = let z : ◌≡◌ {A = ℕ} 0 1 = cc in omega arith
 
 module _ (bytes : List ℕ) (i : ℕ) where
   -- a record that is heard is 64 bytes long
-  heard-whole : (e : Event) → heard (recordOf bytes i) ≡ WellFormed e → 64 * i + 64 ≤ length bytes
-  heard-whole e h = go (dec_le (64 * i + 64) (length bytes))
+  heard_whole : (e : Event) → heard (record_of bytes i) ≡ WellFormed e → 64 * i + 64 ≤ length bytes
+  heard_whole e h = go (dec_le (64 * i + 64) (length bytes))
     where
       go : Dec (64 * i + 64 ≤ length bytes) → 64 * i + 64 ≤ length bytes
       go (yes a) = a
       go (no a) =
-          let cut : length (recordOf bytes i) ≡ 64 → ⊥ = λ w. omega (arith, length-take 64 (drop (64 * i) bytes), length-drop (64 * i) bytes) in
-          absurd (not-both e (sym (not-whole (recordOf bytes i) cut) ∙ h))
+          let cut : length (record_of bytes i) ≡ 64 → ⊥ = λ w. omega (arith, length-take 64 (drop (64 * i) bytes), length-drop (64 * i) bytes) in
+          absurd (not_both e (sym (not_whole (record_of bytes i) cut) ∙ h))
 
-  pub next-heard : i < recordsIn bytes → HeardFrom bytes i → NextHeard bytes i
-  unfolding HeardFrom eventsFrom listed
-  next-heard less h = go (heard (recordOf bytes i)) refl (listed (recordsIn bytes - (i + 1)) (i + 1) bytes) refl (rw one at h)
+  pub next-heard : i < records_in bytes → HeardFrom bytes i → NextHeard bytes i
+  unfolding HeardFrom events_from listed
+  next-heard less h = go (heard (record_of bytes i)) refl (listed (records_in bytes - (i + 1)) (i + 1) bytes) refl (rw one at h)
     where
-      one : recordsIn bytes - i ≡ suc (recordsIn bytes - (i + 1))
+      one : records_in bytes - i ≡ suc (records_in bytes - (i + 1))
       one = omega arith
 
-      go : (p : Parsed) → heard (recordOf bytes i) ≡ p → (o : Option (List Event)) → listed (recordsIn bytes - (i + 1)) (i + 1) bytes ≡ o
-          → before p o ≡ some (orNone (before p o)) → NextHeard bytes i
+      go : (p : Parsed) → heard (record_of bytes i) ≡ p → (o : Option (List Event)) → listed (records_in bytes - (i + 1)) (i + 1) bytes ≡ o
+          → before p o ≡ some (or_none (before p o)) → NextHeard bytes i
       go Malformed is o rest h = absurd (not_some _ h)
       go (WellFormed e) is none rest h = absurd (not_some _ h)
       go (WellFormed e) is (some es) rest h = record {
         event = e;
         is = is;
-        events = ap (λ (n : ℕ). orNone (listed n i bytes)) one ∙ rw (is, rest);
-        later = rest ∙ ap some (sym (ap orNone rest));
+        events = ap (λ (n : ℕ). or_none (listed n i bytes)) one ∙ rw (is, rest);
+        later = rest ∙ ap some (sym (ap or_none rest));
       }
 
-  pub none_left : length bytes / 64 ≤ i → HeardFrom bytes i → eventsFrom bytes i ≡ []
-  unfolding eventsFrom listed
-  none_left more h = go (recordsIn bytes - i) refl
+  pub none_left : length bytes / 64 ≤ i → HeardFrom bytes i → events_from bytes i ≡ []
+  unfolding events_from listed
+  none_left more h = go (records_in bytes - i) refl
     where
-      go : (left : ℕ) → recordsIn bytes - i ≡ left → eventsFrom bytes i ≡ []
-      go zero e = ap (λ (n : ℕ). orNone (listed n i bytes)) e
-      go (suc left) e = let next = next-heard (omega arith) h in absurd (omega (arith, heard-whole next.event next.is))
+      go : (left : ℕ) → records_in bytes - i ≡ left → events_from bytes i ≡ []
+      go zero e = ap (λ (n : ℕ). or_none (listed n i bytes)) e
+      go (suc left) e = let next = next-heard (omega arith) h in absurd (omega (arith, heard_whole next.event next.is))
 
 -- ---- a run of pairs
 -- what is left of a run, from a record and a place on, comes to the whole of it
 pub record RunLeft (bytes : List ℕ) (from : ℕ) (L : List ℕ) (at : ℕ) (L' : List ℕ) (next end : ℕ) : Type 0 where
-  pub comes : sets L' end (runBytes (eventsFrom bytes next)) ≡ sets L at (runBytes (eventsFrom bytes from))
-  pub place : end + length (runBytes (eventsFrom bytes next)) ≡ at + length (runBytes (eventsFrom bytes from))
-  pub behind : behindRun (eventsFrom bytes next) ≡ behindRun (eventsFrom bytes from)
+  pub comes : sets L' end (run_bytes (events_from bytes next)) ≡ sets L at (run_bytes (events_from bytes from))
+  pub place : end + length (run_bytes (events_from bytes next)) ≡ at + length (run_bytes (events_from bytes from))
+  pub behind : behind_run (events_from bytes next) ≡ behind_run (events_from bytes from)
   pub heard : HeardFrom bytes next
   pub past : from ≤ next
 
-run-pair : (e : Event) (es : List Event) → e.kind ≡ 64 → runBytes (e ∷ es) ≡ pair_of e.x e.y ++ runBytes es
-unfolding runBytes
-run-pair e es h = ap (λ (b : Bool). cond b (pair_of e.x e.y ++ runBytes es) []) (eq-eqb e.kind 64 h)
+run-pair : (e : Event) (es : List Event) → e.kind ≡ 64 → run_bytes (e ∷ es) ≡ pair_of e.x e.y ++ run_bytes es
+unfolding run_bytes
+run-pair e es h = ap (λ (b : Bool). cond b (pair_of e.x e.y ++ run_bytes es) []) (eq-eqb e.kind 64 h)
 
-behind-pair : (e : Event) (es : List Event) → e.kind ≡ 64 → behindRun (e ∷ es) ≡ behindRun es
-unfolding behindRun
-behind-pair e es h = ap (λ (b : Bool). cond b (behindRun es) (e ∷ es)) (eq-eqb e.kind 64 h)
+behind_pair : (e : Event) (es : List Event) → e.kind ≡ 64 → behind_run (e ∷ es) ≡ behind_run es
+unfolding behind_run
+behind_pair e es h = ap (λ (b : Bool). cond b (behind_run es) (e ∷ es)) (eq-eqb e.kind 64 h)
 
-run-other : (e : Event) (es : List Event) → (e.kind ≡ 64 → ⊥) → runBytes (e ∷ es) ≡ []
-unfolding runBytes
-run-other e es h = ap (λ (b : Bool). cond b (pair_of e.x e.y ++ runBytes es) []) (ne_eqb e.kind 64 h)
+run-other : (e : Event) (es : List Event) → (e.kind ≡ 64 → ⊥) → run_bytes (e ∷ es) ≡ []
+unfolding run_bytes
+run-other e es h = ap (λ (b : Bool). cond b (pair_of e.x e.y ++ run_bytes es) []) (ne_eqb e.kind 64 h)
 
-behind-other : (e : Event) (es : List Event) → (e.kind ≡ 64 → ⊥) → behindRun (e ∷ es) ≡ e ∷ es
-unfolding behindRun
-behind-other e es h = ap (λ (b : Bool). cond b (behindRun es) (e ∷ es)) (ne_eqb e.kind 64 h)
+behind_other : (e : Event) (es : List Event) → (e.kind ≡ 64 → ⊥) → behind_run (e ∷ es) ≡ e ∷ es
+unfolding behind_run
+behind_other e es h = ap (λ (b : Bool). cond b (behind_run es) (e ∷ es)) (ne_eqb e.kind 64 h)
 
 -- stores that are left, the first of them done
 pub rest_of : {L L' : List ℕ} (l b rest : List ℕ) (at : ℕ) → L ≡ sets l at b → sets l at (b ++ rest) ≡ L' → sets L (at + length b) rest ≡ L'
 rest_of l b rest at h w = ap (λ (x : List ℕ). sets x (at + length b) rest) h ∙ sets-append b rest l at ∙ w
 
 module _ (bytes : List ℕ) (from : ℕ) (L : List ℕ) (at : ℕ) where
-  pub run-began : HeardFrom bytes from → RunLeft bytes from L at L from at
-  run-began h = record { comes = refl; place = refl; behind = refl; heard = h; past = omega arith }
+  pub run_began : HeardFrom bytes from → RunLeft bytes from L at L from at
+  run_began h = record { comes = refl; place = refl; behind = refl; heard = h; past = omega arith }
 
-  run_ends : {L' : List ℕ} {next end : ℕ} → RunLeft bytes from L at L' next end → runBytes (eventsFrom bytes next) ≡ [] → behindRun (eventsFrom bytes next) ≡ eventsFrom bytes next
+  run_ends : {L' : List ℕ} {next end : ℕ} → RunLeft bytes from L at L' next end → run_bytes (events_from bytes next) ≡ [] → behind_run (events_from bytes next) ≡ events_from bytes next
       → RunLaid bytes from L at L' next end
   run_ends {L'} {next} {end} r empty same = record {
     laid = ap (sets L' end) (sym empty) ∙ r.comes;
@@ -115,30 +115,30 @@ module _ (bytes : List ℕ) (from : ℕ) (L : List ℕ) (at : ℕ) where
   }
 
   -- there is no record left
-  pub run-ended : {L' : List ℕ} {next end : ℕ} → length bytes / 64 ≤ next → RunLeft bytes from L at L' next end → RunLaid bytes from L at L' next end
-  unfolding runBytes behindRun
-  run-ended {next = next} more r = let gone = none_left bytes next more r.heard in run_ends r (ap runBytes gone) (ap behindRun gone ∙ sym gone)
+  pub run_ended : {L' : List ℕ} {next end : ℕ} → length bytes / 64 ≤ next → RunLeft bytes from L at L' next end → RunLaid bytes from L at L' next end
+  unfolding run_bytes behind_run
+  run_ended {next = next} more r = let gone = none_left bytes next more r.heard in run_ends r (ap run_bytes gone) (ap behind_run gone ∙ sym gone)
 
   -- the next record is a pair
   module _ (L' : List ℕ) (next end : ℕ) (e : Event) (less : next < length bytes / 64) (r : RunLeft bytes from L at L' next end)
-      (is : (v : Event) → heard (recordOf bytes next) ≡ WellFormed v → e ≡ v) where
-    ahead : eventsFrom bytes next ≡ e ∷ eventsFrom bytes (next + 1)
-    ahead = let n = next-heard bytes next (omega arith) r.heard in n.events ∙ ap (λ (v : Event). v ∷ eventsFrom bytes (next + 1)) (sym (is n.event n.is))
+      (is : (v : Event) → heard (record_of bytes next) ≡ WellFormed v → e ≡ v) where
+    ahead : events_from bytes next ≡ e ∷ events_from bytes (next + 1)
+    ahead = let n = next-heard bytes next (omega arith) r.heard in n.events ∙ ap (λ (v : Event). v ∷ events_from bytes (next + 1)) (sym (is n.event n.is))
 
-    run-ahead : e.kind ≡ 64 → runBytes (eventsFrom bytes next) ≡ pair_of e.x e.y ++ runBytes (eventsFrom bytes (next + 1))
-    run-ahead pair = ap runBytes ahead ∙ run-pair e (eventsFrom bytes (next + 1)) pair
+    run_ahead : e.kind ≡ 64 → run_bytes (events_from bytes next) ≡ pair_of e.x e.y ++ run_bytes (events_from bytes (next + 1))
+    run_ahead pair = ap run_bytes ahead ∙ run-pair e (events_from bytes (next + 1)) pair
 
-    run_length : e.kind ≡ 64 → length (runBytes (eventsFrom bytes next)) ≡ 16 + length (runBytes (eventsFrom bytes (next + 1)))
-    run_length pair = ap length (run-ahead pair) ∙ length-append (pair_of e.x e.y) (runBytes (eventsFrom bytes (next + 1)))
+    run_length : e.kind ≡ 64 → length (run_bytes (events_from bytes next)) ≡ 16 + length (run_bytes (events_from bytes (next + 1)))
+    run_length pair = ap length (run_ahead pair) ∙ length-append (pair_of e.x e.y) (run_bytes (events_from bytes (next + 1)))
 
-    pub pair-room : e.kind ≡ 64 → end + 16 ≤ at + length (runBytes (eventsFrom bytes from))
+    pub pair-room : e.kind ≡ 64 → end + 16 ≤ at + length (run_bytes (events_from bytes from))
     pair-room pair = omega (arith, run_length pair, r.place)
 
     pub run_on : {L'' : List ℕ} → e.kind ≡ 64 → L'' ≡ sets L' end (pair_of e.x e.y) → RunLeft bytes from L at L'' (next + 1) (end + 16)
     run_on pair laid = record {
-      comes = rest_of L' (pair_of e.x e.y) (runBytes (eventsFrom bytes (next + 1))) end laid (ap (sets L' end) (sym (run-ahead pair)) ∙ r.comes);
+      comes = rest_of L' (pair_of e.x e.y) (run_bytes (events_from bytes (next + 1))) end laid (ap (sets L' end) (sym (run_ahead pair)) ∙ r.comes);
       place = omega (arith, run_length pair, r.place);
-      behind = sym (ap behindRun ahead ∙ behind-pair e (eventsFrom bytes (next + 1)) pair) ∙ r.behind;
+      behind = sym (ap behind_run ahead ∙ behind_pair e (events_from bytes (next + 1)) pair) ∙ r.behind;
       heard = (next-heard bytes next (omega arith) r.heard).later;
       past = omega (arith, r.past);
     }
@@ -146,92 +146,92 @@ module _ (bytes : List ℕ) (from : ℕ) (L : List ℕ) (at : ℕ) where
     -- it is another event
     pub run-stopped : (e.kind ≡ 64 → ⊥) → RunLaid bytes from L at L' next end
     run-stopped other =
-        run_ends r (ap runBytes ahead ∙ run-other e (eventsFrom bytes (next + 1)) other) (ap behindRun ahead ∙ behind-other e (eventsFrom bytes (next + 1)) other ∙ sym ahead)
+        run_ends r (ap run_bytes ahead ∙ run-other e (events_from bytes (next + 1)) other) (ap behind_run ahead ∙ behind_other e (events_from bytes (next + 1)) other ∙ sym ahead)
 
 -- ---- the whole list
 -- what is left of it, from a record on, in a place
-unfoldable pub spelledFrom : Around → List ℕ → ℕ → List ℕ
-spelledFrom k bytes i = spelled k (map read (eventsFrom bytes i))
+unfoldable pub spelled_from : Around → List ℕ → ℕ → List ℕ
+spelled_from k bytes i = spelled k (map read (events_from bytes i))
 
 pub record Left (bytes L : List ℕ) (k : Around) (L' : List ℕ) (next at : ℕ) : Type 0 where
-  pub comes : sets L' at (spelledFrom k bytes next) ≡ sets L 0 (spelledOf bytes)
-  pub place : at + length (spelledFrom k bytes next) ≡ length (spelledOf bytes)
+  pub comes : sets L' at (spelled_from k bytes next) ≡ sets L 0 (spelled_of bytes)
+  pub place : at + length (spelled_from k bytes next) ≡ length (spelled_of bytes)
   pub heard : HeardFrom bytes next
 
 -- an event by itself, and a run of pairs that are no Points, before the others
-one-first : (k : Around) (e : Event) (es : List Event) → spelled k (map read (e ∷ es)) ≡ laid_of k e ++ spelled (laterThan k e) (map read es)
-unfolding spelled laid_of laterThan
+one-first : (k : Around) (e : Event) (es : List Event) → spelled k (map read (e ∷ es)) ≡ laid_of k e ++ spelled (later_than k e) (map read es)
+unfolding spelled laid_of later_than
 one-first k e es = refl
 
-run-first : (k : Around) → k.points ≡ false → (es : List Event) → spelled k (map read es) ≡ runBytes es ++ spelled k (map read (behindRun es))
-unfolding runBytes behindRun
+run-first : (k : Around) → k.points ≡ false → (es : List Event) → spelled k (map read es) ≡ run_bytes es ++ spelled k (map read (behind_run es))
+unfolding run_bytes behind_run
 run-first k bare [] = refl
 run-first k bare (e ∷ es) = go (eqb e.kind 64) refl (run-first k bare es)
   where
-    go : (pair : Bool) → eqb e.kind 64 ≡ pair → spelled k (map read es) ≡ runBytes es ++ spelled k (map read (behindRun es))
-        → spelled k (map read (e ∷ es)) ≡ cond pair (pair_of e.x e.y ++ runBytes es) [] ++ spelled k (map read (cond pair (behindRun es) (e ∷ es)))
+    go : (pair : Bool) → eqb e.kind 64 ≡ pair → spelled k (map read es) ≡ run_bytes es ++ spelled k (map read (behind_run es))
+        → spelled k (map read (e ∷ es)) ≡ cond pair (pair_of e.x e.y ++ run_bytes es) [] ++ spelled k (map read (cond pair (behind_run es) (e ∷ es)))
     go true pair later =
         let kind = eqb-true e.kind 64 pair in
         one-first k e es
         ∙ ap₂ (λ (b : List ℕ) (k : Around). b ++ spelled k (map read es)) (laid-pair k e kind bare) (sym (later_same k e (ap is_type kind)))
         ∙ ap (λ (l : List ℕ). pair_of e.x e.y ++ l) later
-        ∙ sym (append_assoc (pair_of e.x e.y) (runBytes es) (spelled k (map read (behindRun es))))
+        ∙ sym (append_assoc (pair_of e.x e.y) (run_bytes es) (spelled k (map read (behind_run es))))
     go false pair later = refl
 
 module _ (bytes L : List ℕ) where
-  pub began : eventsIn bytes ≡ some (heardEvents bytes) → Left bytes L outermost L 0 0
-  unfolding HeardFrom eventsFrom heardEvents spelledFrom spelledOf
+  pub began : events_in bytes ≡ some (heard_events bytes) → Left bytes L outermost L 0 0
+  unfolding HeardFrom events_from heard_events spelled_from spelled_of
   began h =
-      let all : eventsFrom bytes 0 ≡ heardEvents bytes = ap (λ (n : ℕ). orNone (listed n 0 bytes)) (sub-zero (recordsIn bytes)) in
+      let all : events_from bytes 0 ≡ heard_events bytes = ap (λ (n : ℕ). or_none (listed n 0 bytes)) (sub-zero (records_in bytes)) in
       record {
         comes = ap (λ (es : List Event). sets L 0 (spelled outermost (map read es))) all;
         place = omega (arith, ap (λ (es : List Event). length (spelled outermost (map read es))) all);
-        heard = ap (λ (n : ℕ). listed n 0 bytes) (sub-zero (recordsIn bytes)) ∙ h ∙ ap some (sym all);
+        heard = ap (λ (n : ℕ). listed n 0 bytes) (sub-zero (records_in bytes)) ∙ h ∙ ap some (sym all);
       }
 
-  pub ended : {k : Around} {L' : List ℕ} {next at : ℕ} → length bytes / 64 ≤ next → Left bytes L k L' next at → L' ≡ sets L 0 (spelledOf bytes)
-  unfolding spelledFrom spelled
+  pub ended : {k : Around} {L' : List ℕ} {next at : ℕ} → length bytes / 64 ≤ next → Left bytes L k L' next at → L' ≡ sets L 0 (spelled_of bytes)
+  unfolding spelled_from spelled
   ended {k} {L'} {next} {at} more r = ap (λ (es : List Event). sets L' at (spelled k (map read es))) (sym (none_left bytes next more r.heard)) ∙ r.comes
 
   -- an event by itself was laid down
   module _ (k : Around) (L' : List ℕ) (next at : ℕ) (e : Event) (less : next < length bytes / 64) (r : Left bytes L k L' next at)
-      (is : (v : Event) → heard (recordOf bytes next) ≡ WellFormed v → e ≡ v) where
-    event-first : spelledFrom k bytes next ≡ laid_of k e ++ spelledFrom (laterThan k e) bytes (next + 1)
-    unfolding spelledFrom
+      (is : (v : Event) → heard (record_of bytes next) ≡ WellFormed v → e ≡ v) where
+    event-first : spelled_from k bytes next ≡ laid_of k e ++ spelled_from (later_than k e) bytes (next + 1)
+    unfolding spelled_from
     event-first =
         let n = next-heard bytes next (omega arith) r.heard in
-        ap (λ (es : List Event). spelled k (map read es)) (n.events ∙ ap (λ (v : Event). v ∷ eventsFrom bytes (next + 1)) (sym (is n.event n.is)))
-        ∙ one-first k e (eventsFrom bytes (next + 1))
+        ap (λ (es : List Event). spelled k (map read es)) (n.events ∙ ap (λ (v : Event). v ∷ events_from bytes (next + 1)) (sym (is n.event n.is)))
+        ∙ one-first k e (events_from bytes (next + 1))
 
-    event-length : length (spelledFrom k bytes next) ≡ length (laid_of k e) + length (spelledFrom (laterThan k e) bytes (next + 1))
-    event-length = ap length event-first ∙ length-append (laid_of k e) (spelledFrom (laterThan k e) bytes (next + 1))
+    event-length : length (spelled_from k bytes next) ≡ length (laid_of k e) + length (spelled_from (later_than k e) bytes (next + 1))
+    event-length = ap length event-first ∙ length-append (laid_of k e) (spelled_from (later_than k e) bytes (next + 1))
 
-    pub event-room : at + length (laid_of k e) ≤ length (spelledOf bytes)
+    pub event-room : at + length (laid_of k e) ≤ length (spelled_of bytes)
     event-room = omega (arith, event-length, r.place)
 
-    pub event-on : {k' : Around} {L'' : List ℕ} {end : ℕ} → k' ≡ laterThan k e → L'' ≡ sets L' at (laid_of k e) → end ≡ at + length (laid_of k e) → Left bytes L k' L'' (next + 1) end
-    event-on {L'' = L''} later laid place = rw (later, place) (record {
-      comes = rest_of L' (laid_of k e) (spelledFrom (laterThan k e) bytes (next + 1)) at laid (ap (sets L' at) (sym event-first) ∙ r.comes);
+    pub event_on : {k' : Around} {L'' : List ℕ} {end : ℕ} → k' ≡ later_than k e → L'' ≡ sets L' at (laid_of k e) → end ≡ at + length (laid_of k e) → Left bytes L k' L'' (next + 1) end
+    event_on {L'' = L''} later laid place = rw (later, place) (record {
+      comes = rest_of L' (laid_of k e) (spelled_from (later_than k e) bytes (next + 1)) at laid (ap (sets L' at) (sym event-first) ∙ r.comes);
       place = omega (arith, event-length, r.place);
       heard = (next-heard bytes next (omega arith) r.heard).later;
     })
 
   -- a run of pairs was laid down
   module _ (k : Around) (L' : List ℕ) (next at : ℕ) (bare : k.points ≡ false) (r : Left bytes L k L' next at) where
-    pairs-length : length (spelledFrom k bytes next) ≡ length (runBytes (eventsFrom bytes next)) + length (spelled k (map read (behindRun (eventsFrom bytes next))))
-    unfolding spelledFrom
-    pairs-length = ap length (run-first k bare (eventsFrom bytes next)) ∙ length-append (runBytes (eventsFrom bytes next)) (spelled k (map read (behindRun (eventsFrom bytes next))))
+    pairs-length : length (spelled_from k bytes next) ≡ length (run_bytes (events_from bytes next)) + length (spelled k (map read (behind_run (events_from bytes next))))
+    unfolding spelled_from
+    pairs-length = ap length (run-first k bare (events_from bytes next)) ∙ length-append (run_bytes (events_from bytes next)) (spelled k (map read (behind_run (events_from bytes next))))
 
-    pub pairs-room : at + length (runBytes (eventsFrom bytes next)) ≤ length (spelledOf bytes)
+    pub pairs-room : at + length (run_bytes (events_from bytes next)) ≤ length (spelled_of bytes)
     pairs-room = omega (arith, pairs-length, r.place)
 
-    pub pairs-on : {L'' : List ℕ} {next' end : ℕ} → RunLaid bytes next L' at L'' next' end → Left bytes L k L'' next' end
-    unfolding spelledFrom
-    pairs-on {L''} {next'} {end} ran =
-        let behind : spelledFrom k bytes next' ≡ spelled k (map read (behindRun (eventsFrom bytes next))) = ap (λ (es : List Event). spelled k (map read es)) ran.behind in
+    pub pairs_on_lem : {L'' : List ℕ} {next' end : ℕ} → RunLaid bytes next L' at L'' next' end → Left bytes L k L'' next' end
+    unfolding spelled_from
+    pairs_on_lem {L''} {next'} {end} ran =
+        let behind : spelled_from k bytes next' ≡ spelled k (map read (behind_run (events_from bytes next))) = ap (λ (es : List Event). spelled k (map read es)) ran.behind in
         rw ran.place (record {
-          comes = rest_of L' (runBytes (eventsFrom bytes next)) (spelledFrom k bytes next') at ran.laid
-              (ap (λ (l : List ℕ). sets L' at (runBytes (eventsFrom bytes next) ++ l)) behind ∙ ap (sets L' at) (sym (run-first k bare (eventsFrom bytes next))) ∙ r.comes);
+          comes = rest_of L' (run_bytes (events_from bytes next)) (spelled_from k bytes next') at ran.laid
+              (ap (λ (l : List ℕ). sets L' at (run_bytes (events_from bytes next) ++ l)) behind ∙ ap (sets L' at) (sym (run-first k bare (events_from bytes next))) ∙ r.comes);
           place = omega (arith, ap length behind, pairs-length, r.place);
           heard = ran.heard;
         })

@@ -5,11 +5,11 @@ ghost use Rattle.std.proofs.lemmas.List.Edits.{sets};
 ghost use Rattle.laws.specs.Bytes.{le};
 ghost use Rattle.kinds.specs.Event.{WellFormed};
 ghost use Rattle.kinds.specs.declared.event.Event.{Event};
-ghost use Rattle.log.specs.Log.{heard, recordOf};
+ghost use Rattle.log.specs.Log.{heard, record_of};
 ghost use Rattle.nesting.specs.Flat.{is_type};
-ghost use Rattle.wkb_written.specs.Spelling.{headBytes, pair_of};
-ghost use Rattle.wkb_written.specs.Writing.{eventsIn};
-ghost use Rattle.wkb_put.specs.Put.{around_of, laid_of, laterThan, is_ring, heardEvents, spelledOf, eventsFrom, HeardFrom, runBytes, RunLaid};
+ghost use Rattle.wkb_written.specs.Spelling.{head_bytes, pair_of};
+ghost use Rattle.wkb_written.specs.Writing.{events_in};
+ghost use Rattle.wkb_put.specs.Put.{around_of, laid_of, later_than, is_ring, heard_events, spelled_of, events_from, HeardFrom, run_bytes, RunLaid};
 
 use kinds::event::Event;
 use numbers::{put_u32, put_u64};
@@ -54,7 +54,7 @@ impl Around {
 
     // What stands around the event behind one.
     fn later_than(self, e: Event) -> Around
-        ensures { around_of result ≡ laterThan (around_of self) e }
+        ensures { around_of result ≡ later_than (around_of self) e }
     {
         let kind = e.kind;
         if !is_begin(kind) {
@@ -76,7 +76,7 @@ impl Around {
 
 fn put_head(out: &mut [u8], at: usize, kind: u8)
     requires { at + 5 ≤ length out.old }
-    ensures { out.new ≡ sets out.old at (headBytes kind) }
+    ensures { out.new ≡ sets out.old at (head_bytes kind) }
 {
     out[at] = LITTLE;
     put_u32(out, at + 1, kind as u32);
@@ -85,7 +85,7 @@ fn put_head(out: &mut [u8], at: usize, kind: u8)
 // A head and a count.
 fn put_counted(out: &mut [u8], at: usize, kind: u8, size: u32)
     requires { at + 9 ≤ length out.old }
-    ensures { out.new ≡ sets out.old at (headBytes kind ++ le 4 size) }
+    ensures { out.new ≡ sets out.old at (head_bytes kind ++ le 4 size) }
 {
     put_head(out, at, kind);
     put_u32(out, at + HEAD_BYTES, size);
@@ -102,7 +102,7 @@ fn put_pair(out: &mut [u8], at: usize, x: u64, y: u64)
 // A pair with the head of a Point.
 fn put_point(out: &mut [u8], at: usize, x: u64, y: u64)
     requires { at + 21 ≤ length out.old }
-    ensures { out.new ≡ sets out.old at (headBytes 1 ++ pair_of x y) }
+    ensures { out.new ≡ sets out.old at (head_bytes 1 ++ pair_of x y) }
 {
     put_head(out, at, Event::POINT_BEGIN);
     put_pair(out, at + HEAD_BYTES, x, y);
@@ -149,7 +149,7 @@ fn put_event(out: &mut [u8], at: usize, around: Around, e: Event) -> usize
 // The event of a record that is heard as one.
 fn event_at(events: &[u8], i: usize) -> Event
     requires { 64 * i + 64 ≤ length events.now }
-    ensures { (e : Event) → heard (recordOf events.now i) ≡ WellFormed e → result ≡ e }
+    ensures { (e : Event) → heard (record_of events.now i) ≡ WellFormed e → result ≡ e }
 {
     let from = log::EVENT_BYTES * i;
     let end = from + log::EVENT_BYTES;
@@ -159,7 +159,7 @@ fn event_at(events: &[u8], i: usize) -> Event
 // Lays the pairs down that the records begin with from one on, where they are no Points. Pairs are the commonest events by far, so that each is
 // two words read and two words written.
 fn put_pairs(events: &[u8], from: usize, out: &mut [u8], at: usize) -> Ran
-    requires { HeardFrom events.now from × (at + length (runBytes (eventsFrom events.now from)) ≤ length out.old) }
+    requires { HeardFrom events.now from × (at + length (run_bytes (events_from events.now from)) ≤ length out.old) }
     ensures { RunLaid events.now from out.old at out.new result.next result.at }
 {
     let records = events.len() / log::EVENT_BYTES;
@@ -179,8 +179,8 @@ fn put_pairs(events: &[u8], from: usize, out: &mut [u8], at: usize) -> Ran
 
 // Lays down all that a list of events is spelled as, where none of its records is malformed and there is room.
 pub fn put_all(events: &[u8], out: &mut [u8])
-    requires { (eventsIn events.now ≡ some (heardEvents events.now)) × (length (spelledOf events.now) ≤ length out.old) }
-    ensures { out.new ≡ sets out.old 0 (spelledOf events.now) }
+    requires { (events_in events.now ≡ some (heard_events events.now)) × (length (spelled_of events.now) ≤ length out.old) }
+    ensures { out.new ≡ sets out.old 0 (spelled_of events.now) }
 {
     let records = events.len() / log::EVENT_BYTES;
     let mut around = Around::OUTERMOST;

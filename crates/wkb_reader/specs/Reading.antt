@@ -2,7 +2,7 @@
 -- first, then 19; 13 stands behind a member's type, 20 at the end. Saying a record to a log adds 9, where it finds no room.
 use Rattle.std.specs.Prelude.{Bool, true, false, cond, ◌&&◌, List, ℕ, zero, suc, ◌+◌, ◌-◌, leb, eqb, length, take, drop}
 use Rattle.laws.specs.Script.{Script, stop, say}
-use Rattle.kinds.specs.Event.{beginE, endE, xyE}
+use Rattle.kinds.specs.Event.{begin_e, end_e, xy_e}
 use Rattle.kinds.specs.declared.event.Event.{Event}
 use Rattle.wkb.specs.Order.{value_of}
 use Rattle.wkb.specs.declared.order.Order.{Order}
@@ -37,33 +37,33 @@ several f zero i l next = next l
 several f (suc n) i l next = f i l (λ rest. several f n (i + 1) rest next)
 
 -- ---- what has no order mark: it goes by the order of the geometry that it is in
-unfoldable pub pairR : Order → ℕ → Reads
-pairR order i = field order 8 (λ x. field order 8 (λ y. saying (xyE x y i)))
+unfoldable pub pair_r : Order → ℕ → Reads
+pair_r order i = field order 8 (λ x. field order 8 (λ y. saying (xy_e x y i)))
 
 -- a count; the begin is said behind it; so many things, numbered from 0; the end
-unfoldable pub groupR : Order → ℕ → Bool → (ℕ → Reads) → ℕ → Reads
-groupR order type tagged f i = field order 4 (λ n. saying (beginE type tagged n i) ⊳ several f n 0 ⊳ saying (endE type tagged i))
+unfoldable pub group_r : Order → ℕ → Bool → (ℕ → Reads) → ℕ → Reads
+group_r order type tagged f i = field order 4 (λ n. saying (begin_e type tagged n i) ⊳ several f n 0 ⊳ saying (end_e type tagged i))
 
-unfoldable pub lineR : Order → Bool → ℕ → Reads
-lineR order tagged i = groupR order 2 tagged (pairR order) i
+unfoldable pub line_r : Order → Bool → ℕ → Reads
+line_r order tagged i = group_r order 2 tagged (pair_r order) i
 
-unfoldable pub polygonR : Order → Bool → ℕ → Reads
-polygonR order tagged i = groupR order 3 tagged (lineR order false) i
+unfoldable pub polygon_r : Order → Bool → ℕ → Reads
+polygon_r order tagged i = group_r order 3 tagged (line_r order false) i
 
 -- a Point's begin is said before its x is looked at
-unfoldable pub pointR : Order → ℕ → Reads
-pointR order i = saying (beginE 1 false 0 i) ⊳ pairR order 0 ⊳ saying (endE 1 false i)
+unfoldable pub point_r : Order → ℕ → Reads
+point_r order i = saying (begin_e 1 false 0 i) ⊳ pair_r order 0 ⊳ saying (end_e 1 false i)
 
 -- ---- an order mark, 0 or 1, and a type that may stand there
 abbrev pub order_of : ℕ → Order
 order_of zero = Big
 order_of (suc n) = Little
 
-unfoldable pub typeR : ℕ → ℕ → (Order → ℕ → Reads) → Order → Reads
-typeR least most f order = field order 4 (λ type. cond (leb least type && leb type most) (f order type) (refuse 19))
+unfoldable pub type_r : ℕ → ℕ → (Order → ℕ → Reads) → Order → Reads
+type_r least most f order = field order 4 (λ type. cond (leb least type && leb type most) (f order type) (refuse 19))
 
-unfoldable pub headR : ℕ → ℕ → (Order → ℕ → Reads) → Reads
-headR least most f = field Little 1 (λ mark. cond (leb mark 1) (typeR least most f (order_of mark)) (refuse 19))
+unfoldable pub head_r : ℕ → ℕ → (Order → ℕ → Reads) → Reads
+head_r least most f = field Little 1 (λ mark. cond (leb mark 1) (type_r least most f (order_of mark)) (refuse 19))
 
 -- one level deeper, where one is left
 abbrev pub below : ℕ → Reads → Reads
@@ -71,37 +71,37 @@ below zero r = refuse 13
 below (suc left) r = r
 
 -- a member of a Multi, by the order of its own mark: a point is a pair with the member's number, a line and a polygon are untagged
-unfoldable pub partR : Order → ℕ → ℕ → Reads
-partR order type i =
-    cond (eqb type 1) (pairR order i)
-    (cond (eqb type 2) (lineR order false i)
-    (polygonR order false i))
+unfoldable pub part_r : Order → ℕ → ℕ → Reads
+part_r order type i =
+    cond (eqb type 1) (pair_r order i)
+    (cond (eqb type 2) (line_r order false i)
+    (polygon_r order false i))
 
 -- it has the Multi's single type
 unfoldable pub member_r : ℕ → ℕ → ℕ → Reads
-member_r left single i = headR single single (λ order type. below left (partR order single i))
+member_r left single i = head_r single single (λ order type. below left (part_r order single i))
 
 -- MultiPoint 4, MultiLineString 5 and MultiPolygon 6 are of Points 1, LineStrings 2 and Polygons 3
-unfoldable pub multiR : ℕ → Order → ℕ → ℕ → Reads
-multiR left order type i = groupR order type false (member_r left (type - 3)) i
+unfoldable pub multi_r : ℕ → Order → ℕ → ℕ → Reads
+multi_r left order type i = group_r order type false (member_r left (type - 3)) i
 
 -- what stands behind the head of any type but GeometryCollection
-unfoldable pub simpleR : ℕ → Order → ℕ → ℕ → Reads
-simpleR left order type i =
-    cond (eqb type 1) (pointR order i)
-    (cond (eqb type 2) (lineR order true i)
-    (cond (eqb type 3) (polygonR order true i)
-    (multiR left order type i)))
+unfoldable pub simple_r : ℕ → Order → ℕ → ℕ → Reads
+simple_r left order type i =
+    cond (eqb type 1) (point_r order i)
+    (cond (eqb type 2) (line_r order true i)
+    (cond (eqb type 3) (polygon_r order true i)
+    (multi_r left order type i)))
 
 -- a geometry, with so many levels left, its own among them
-unfoldable pub geometryR : ℕ → ℕ → Reads
-geometryR zero i = headR 1 7 (λ order type. refuse 13)
-geometryR (suc left) i = headR 1 7 (λ order type. cond (eqb type 7) (groupR order 7 false (geometryR left) i) (simpleR left order type i))
+unfoldable pub geometry_r : ℕ → ℕ → Reads
+geometry_r zero i = head_r 1 7 (λ order type. refuse 13)
+geometry_r (suc left) i = head_r 1 7 (λ order type. cond (eqb type 7) (group_r order 7 false (geometry_r left) i) (simple_r left order type i))
 
 -- no byte is left over
-abbrev pub atEnd : Next
-atEnd rest = cond (eqb (length rest) 0) (stop 0) (stop 20)
+abbrev pub at_end : Next
+at_end rest = cond (eqb (length rest) 0) (stop 0) (stop 20)
 
 -- the outermost is at level 1 of 16, and its index is 0
-unfoldable pub readingR : List ℕ → Script Event
-readingR l = geometryR 16 0 l atEnd
+unfoldable pub reading_r : List ℕ → Script Event
+reading_r l = geometry_r 16 0 l at_end

@@ -2,7 +2,7 @@
 ghost use Rattle.std.specs.Prelude.{false, ◌≤◌, length};
 ghost use Rattle.laws.specs.Cut.{Said};
 ghost use Rattle.log.specs.Log.{events};
-ghost use Rattle.wkb_reader.specs.Reading.{groupR, geometryR, readingR};
+ghost use Rattle.wkb_reader.specs.Reading.{group_r, geometry_r, reading_r};
 ghost use Rattle.wkb_reader.specs.Onward.{Leads};
 
 use crate::head::{Head, read_head};
@@ -25,7 +25,7 @@ fn read_geometry(
 ) -> Reached
     requires { at ≤ length bytes.now }
     ensures { let l = bytes.now in
-        Leads feature l (geometryR left idx) at log.old count result.number result.count result.at log.new × (result.at ≤ length l) }
+        Leads feature l (geometry_r left idx) at log.old count result.number result.count result.at log.new × (result.at ≤ length l) }
 {
     match read_head(bytes, at, 1, 7) {
         Head::Refused(number) => Reached { number, count, at },
@@ -69,7 +69,7 @@ fn read_collection(
 ) -> Reached
     requires { at ≤ length bytes.now }
     ensures { let l = bytes.now in
-        Leads feature l (groupR order 7 false (geometryR left) idx) at log.old count result.number result.count result.at log.new × (result.at ≤ length l) }
+        Leads feature l (group_r order 7 false (geometry_r left) idx) at log.old count result.number result.count result.at log.new × (result.at ≤ length l) }
 {
     let kind = geometry_type::GEOMETRY_COLLECTION;
     let b = read_begin(log, feature, count, bytes, at, order, kind, false, idx);
@@ -100,7 +100,7 @@ fn read_collection(
 // Well-known binary as events from the log's start, each under the feature's number. Refused: at each field 18, then 19; 13 behind a
 // member's type; 9 at each record; 20 at the end.
 pub fn read_wkb(bytes: &[u8], feature: u32, log: &mut [u8]) -> Answer
-    ensures { Said (events feature) (readingR bytes.now) log.old result.number result.count log.new }
+    ensures { Said (events feature) (reading_r bytes.now) log.old result.number result.count log.new }
 {
     let r = read_geometry(log, feature, 0, bytes, 0, 0, 16);
     if r.number != refusal::DONE {

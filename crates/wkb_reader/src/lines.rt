@@ -1,6 +1,6 @@
 // Lines and polygons behind their heads, and rings, which have none.
 ghost use Rattle.std.specs.Prelude.{◌≤◌, length, false};
-ghost use Rattle.wkb_reader.specs.Reading.{lineR, polygonR, several};
+ghost use Rattle.wkb_reader.specs.Reading.{line_r, polygon_r, several};
 ghost use Rattle.wkb_reader.specs.Onward.{Leads};
 
 use crate::pairs::{Reached, read_begin, read_pairs, say_end};
@@ -19,7 +19,7 @@ pub fn read_line(
 ) -> Reached
     requires { at ≤ length bytes.now }
     ensures { let l = bytes.now in
-        Leads feature l (lineR order tagged idx) at log.old count result.number result.count result.at log.new × (result.at ≤ length l) }
+        Leads feature l (line_r order tagged idx) at log.old count result.number result.count result.at log.new × (result.at ≤ length l) }
 {
     let kind = geometry_type::LINE_STRING;
     let b = read_begin(log, feature, count, bytes, at, order, kind, tagged, idx);
@@ -45,7 +45,7 @@ fn read_rings(
 ) -> Reached
     requires { at ≤ length bytes.now }
     ensures { let l = bytes.now in
-        Leads feature l (several (lineR order false) size 0) at log.old count result.number result.count result.at log.new × (result.at ≤ length l) }
+        Leads feature l (several (line_r order false) size 0) at log.old count result.number result.count result.at log.new × (result.at ≤ length l) }
 {
     let mut said = count;
     let mut from = at;
@@ -78,7 +78,7 @@ pub fn read_polygon(
 ) -> Reached
     requires { at ≤ length bytes.now }
     ensures { let l = bytes.now in
-        Leads feature l (polygonR order tagged idx) at log.old count result.number result.count result.at log.new × (result.at ≤ length l) }
+        Leads feature l (polygon_r order tagged idx) at log.old count result.number result.count result.at log.new × (result.at ≤ length l) }
 {
     let kind = geometry_type::POLYGON;
     let b = read_begin(log, feature, count, bytes, at, order, kind, tagged, idx);

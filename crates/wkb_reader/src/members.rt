@@ -1,6 +1,6 @@
 // The members of MultiPoint, MultiLineString and MultiPolygon: each has a head of its own, of the Multi's single type.
 ghost use Rattle.std.specs.Prelude.{◌≤◌, ◌<◌, length};
-ghost use Rattle.wkb_reader.specs.Reading.{partR, member_r, multiR, several};
+ghost use Rattle.wkb_reader.specs.Reading.{part_r, member_r, multi_r, several};
 ghost use Rattle.wkb_reader.specs.Onward.{Leads};
 
 use crate::head::{Head, read_head};
@@ -22,7 +22,7 @@ fn read_part(
 ) -> Reached
     requires { at ≤ length bytes.now }
     ensures { let l = bytes.now in
-        Leads feature l (partR order single idx) at log.old count result.number result.count result.at log.new × (result.at ≤ length l) }
+        Leads feature l (part_r order single idx) at log.old count result.number result.count result.at log.new × (result.at ≤ length l) }
 {
     if single == geometry_type::POINT {
         return read_pair(log, feature, count, bytes, at, order, idx);
@@ -110,7 +110,7 @@ pub fn read_multi(
 ) -> Reached
     requires { (at ≤ length bytes.now) × (3 ≤ kind) × (kind < 32) }
     ensures { let l = bytes.now in
-        Leads feature l (multiR left order kind idx) at log.old count result.number result.count result.at log.new × (result.at ≤ length l) }
+        Leads feature l (multi_r left order kind idx) at log.old count result.number result.count result.at log.new × (result.at ≤ length l) }
 {
     let b = read_begin(log, feature, count, bytes, at, order, kind, false, idx);
     if b.number != refusal::DONE {

@@ -1,7 +1,7 @@
 // What has no order mark of its own: pairs, and a count with a begin and an end around what it counts.
 ghost use Rattle.std.specs.Prelude.{◌≡◌, ◌≤◌, ◌<◌, length};
-ghost use Rattle.kinds.specs.Event.{endE};
-ghost use Rattle.wkb_reader.specs.Reading.{pairR, several};
+ghost use Rattle.kinds.specs.Event.{end_e};
+ghost use Rattle.wkb_reader.specs.Reading.{pair_r, several};
 ghost use Rattle.wkb_reader.specs.Onward.{Leads};
 ghost use Rattle.wkb_reader.specs.Parts.{Opened, Closed};
 
@@ -37,7 +37,7 @@ pub fn read_pair(
 ) -> Reached
     requires { at ≤ length bytes.now }
     ensures { let l = bytes.now in
-        Leads feature l (pairR order idx) at log.old count result.number result.count result.at log.new × (result.at ≤ length l) }
+        Leads feature l (pair_r order idx) at log.old count result.number result.count result.at log.new × (result.at ≤ length l) }
 {
     if bytes.len() - at < 16 {
         return Reached {
@@ -67,7 +67,7 @@ pub fn read_pairs(
 ) -> Reached
     requires { at ≤ length bytes.now }
     ensures { let l = bytes.now in
-        Leads feature l (several (pairR order) size 0) at log.old count result.number result.count result.at log.new × (result.at ≤ length l) }
+        Leads feature l (several (pair_r order) size 0) at log.old count result.number result.count result.at log.new × (result.at ≤ length l) }
 {
     let mut said = count;
     let mut from = at;
@@ -134,7 +134,7 @@ pub fn say_end(
 ) -> Reached
     requires { kind < 32 }
     ensures { let l = bytes.now in
-        Closed feature l (endE kind tagged idx) r.number r.count r.at log.old result.number result.count result.at log.new × (result.at ≡ r.at) }
+        Closed feature l (end_e kind tagged idx) r.number r.count r.at log.old result.number result.count result.at log.new × (result.at ≡ r.at) }
 {
     if r.number != refusal::DONE {
         return r;

@@ -1,6 +1,6 @@
 // Any type but GeometryCollection, behind its head.
 ghost use Rattle.std.specs.Prelude.{◌≤◌, ◌<◌, length};
-ghost use Rattle.wkb_reader.specs.Reading.{pointR, simpleR};
+ghost use Rattle.wkb_reader.specs.Reading.{point_r, simple_r};
 ghost use Rattle.wkb_reader.specs.Onward.{Leads};
 
 use crate::lines::{read_line, read_polygon};
@@ -22,7 +22,7 @@ fn read_point(
 ) -> Reached
     requires { at ≤ length bytes.now }
     ensures { let l = bytes.now in
-        Leads feature l (pointR order idx) at log.old count result.number result.count result.at log.new × (result.at ≤ length l) }
+        Leads feature l (point_r order idx) at log.old count result.number result.count result.at log.new × (result.at ≤ length l) }
 {
     let kind = geometry_type::POINT;
     let b = log::say(log, feature, count, Event::begin(kind, false, 0, idx));
@@ -51,7 +51,7 @@ pub fn read_simple(
 ) -> Reached
     requires { (at ≤ length bytes.now) × (1 ≤ kind) × (kind < 7) }
     ensures { let l = bytes.now in
-        Leads feature l (simpleR left order kind idx) at log.old count result.number result.count result.at log.new × (result.at ≤ length l) }
+        Leads feature l (simple_r left order kind idx) at log.old count result.number result.count result.at log.new × (result.at ≤ length l) }
 {
     if kind == geometry_type::POINT {
         return read_point(log, feature, count, bytes, at, order, idx);

@@ -12,30 +12,30 @@ abbrev pub outermost : Around
 outermost = record { rings = false; points = false }
 
 -- a head, little-endian
-abbrev pub headBytes : ℕ → List ℕ
-headBytes type = 1 ∷ le 4 type
+abbrev pub head_bytes : ℕ → List ℕ
+head_bytes type = 1 ∷ le 4 type
 
-abbrev pub ringsIn : GeometryType → Bool → Bool
-ringsIn Point rings = rings
-ringsIn LineString rings = rings
-ringsIn Polygon rings = true
-ringsIn MultiPoint rings = rings
-ringsIn MultiLineString rings = false
-ringsIn MultiPolygon rings = rings
-ringsIn Collection rings = rings
+abbrev pub rings_in : GeometryType → Bool → Bool
+rings_in Point rings = rings
+rings_in LineString rings = rings
+rings_in Polygon rings = true
+rings_in MultiPoint rings = rings
+rings_in MultiLineString rings = false
+rings_in MultiPolygon rings = rings
+rings_in Collection rings = rings
 
-abbrev pub pointsIn : GeometryType → Bool
-pointsIn Point = false
-pointsIn LineString = false
-pointsIn Polygon = false
-pointsIn MultiPoint = true
-pointsIn MultiLineString = false
-pointsIn MultiPolygon = false
-pointsIn Collection = false
+abbrev pub points_in : GeometryType → Bool
+points_in Point = false
+points_in LineString = false
+points_in Polygon = false
+points_in MultiPoint = true
+points_in MultiLineString = false
+points_in MultiPolygon = false
+points_in Collection = false
 
 -- what stands around the next event
 abbrev pub after : Around → Event → Around
-after k (begin type tagged size idx) = record { rings = ringsIn type k.rings; points = pointsIn type }
+after k (begin type tagged size idx) = record { rings = rings_in type k.rings; points = points_in type }
 after k (end type tagged idx) = k
 after k (pair x y idx) = k
 after k (strange kind) = k
@@ -43,19 +43,19 @@ after k (strange kind) = k
 abbrev pub pair_of : ℕ → ℕ → List ℕ
 pair_of x y = le 8 x ++ le 8 y
 
-abbrev pub beginBytes : Around → GeometryType → Bool → ℕ → List ℕ
-beginBytes k Point tagged size = headBytes 1
-beginBytes k LineString tagged size = cond (k.rings && not tagged) (le 4 size) (headBytes 2 ++ le 4 size)
-beginBytes k Polygon tagged size = headBytes 3 ++ le 4 size
-beginBytes k MultiPoint tagged size = headBytes 4 ++ le 4 size
-beginBytes k MultiLineString tagged size = headBytes 5 ++ le 4 size
-beginBytes k MultiPolygon tagged size = headBytes 6 ++ le 4 size
-beginBytes k Collection tagged size = headBytes 7 ++ le 4 size
+abbrev pub begin_bytes : Around → GeometryType → Bool → ℕ → List ℕ
+begin_bytes k Point tagged size = head_bytes 1
+begin_bytes k LineString tagged size = cond (k.rings && not tagged) (le 4 size) (head_bytes 2 ++ le 4 size)
+begin_bytes k Polygon tagged size = head_bytes 3 ++ le 4 size
+begin_bytes k MultiPoint tagged size = head_bytes 4 ++ le 4 size
+begin_bytes k MultiLineString tagged size = head_bytes 5 ++ le 4 size
+begin_bytes k MultiPolygon tagged size = head_bytes 6 ++ le 4 size
+begin_bytes k Collection tagged size = head_bytes 7 ++ le 4 size
 
 abbrev pub bytes_of : Around → Event → List ℕ
-bytes_of k (begin type tagged size idx) = beginBytes k type tagged size
+bytes_of k (begin type tagged size idx) = begin_bytes k type tagged size
 bytes_of k (end type tagged idx) = []
-bytes_of k (pair x y idx) = cond k.points (headBytes 1 ++ pair_of x y) (pair_of x y)
+bytes_of k (pair x y idx) = cond k.points (head_bytes 1 ++ pair_of x y) (pair_of x y)
 bytes_of k (strange kind) = []
 
 unfoldable pub spelled : Around → List Event → List ℕ

@@ -2,10 +2,10 @@
 mod properties;
 
 ghost use Rattle.std.specs.Prelude.{◌≡◌, List, ℕ};
-ghost use Rattle.log.specs.Log.{featureIn};
+ghost use Rattle.log.specs.Log.{feature_in};
 ghost use Rattle.log.specs.LogLaws.{HeardPair};
 ghost use Rattle.writing.specs.State.{mem_of, outcome};
-ghost use Rattle.writing.specs.Calls.{started, eventCall, finishCall, nextCall};
+ghost use Rattle.writing.specs.Calls.{started, event_call, finish_call, next_call};
 
 use asking::typing::Typing;
 use kinds::geometry::Lent;
@@ -64,7 +64,7 @@ pub fn pair(
 ) -> Wrote
     ensures { let before = mem_of table.now xy.old ends.now z.now m.now t.now tm.now in
         let after = mem_of table.now xy.new ends.now z.now m.now t.now tm.now in
-        ((bytes : List ℕ) → n ≡ featureIn bytes → HeardPair bytes x y → outcome result after ≡ eventCall s before bytes) }
+        ((bytes : List ℕ) → n ≡ feature_in bytes → HeardPair bytes x y → outcome result after ≡ event_call s before bytes) }
 {
     let pools = Lent::new(xy.len(), ends.len(), z.len(), m.len(), t.len(), tm.len());
     let records = store::records_lent(table);
@@ -85,7 +85,7 @@ pub fn event(
 ) -> Wrote
     ensures { let before = mem_of table.old xy.old ends.old z.old m.old t.old tm.old in
         let after = mem_of table.new xy.new ends.new z.new m.new t.new tm.new in
-        outcome result after ≡ eventCall s before bytes.now }
+        outcome result after ≡ event_call s before bytes.now }
 {
     if bytes.len() != 64 {
         return Wrote {
@@ -114,7 +114,7 @@ pub fn finish(
 ) -> Wrote
     ensures { let before = mem_of table.old xy.now ends.now z.now m.now t.now tm.now in
         let after = mem_of table.new xy.now ends.now z.now m.now t.now tm.now in
-        outcome result after ≡ finishCall s before }
+        outcome result after ≡ finish_call s before }
 {
     let pools = Lent::new(xy.len(), ends.len(), z.len(), m.len(), t.len(), tm.len());
     let records = store::records_lent(table);
@@ -138,7 +138,7 @@ pub fn next(
 ) -> Wrote
     ensures { let before = mem_of table.now xy.old ends.old z.old m.old t.old tm.old in
         let after = mem_of table.now xy.new ends.new z.new m.new t.new tm.new in
-        outcome result after ≡ nextCall s before }
+        outcome result after ≡ next_call s before }
 {
     let pools = Lent::new(xy.len(), ends.len(), z.len(), m.len(), t.len(), tm.len());
     let records = store::records_lent(table);

@@ -1,7 +1,7 @@
 // A property of the feature in hand: its bytes stand beside the geometry, and the state counts them.
 ghost use Rattle.std.specs.Prelude.{◌≡◌};
-ghost use Rattle.property_writer.specs.Writing.{bytesAfter};
-ghost use Rattle.writer.specs.Property.{propertyCall, propertyPlace};
+ghost use Rattle.property_writer.specs.Writing.{bytes_after};
+ghost use Rattle.writer.specs.Property.{property_call, property_place};
 
 use writing::state::{State, Wrote};
 
@@ -21,9 +21,9 @@ pub fn property(
     text: &[u8],
     buffer: &mut [u8],
 ) -> PropertyWrote
-    ensures answer { result.wrote ≡ propertyCall s column kind bits text.now buffer.old }
-    ensures place { result.place ≡ propertyPlace s column kind bits text.now buffer.old }
-    ensures bytes { buffer.new ≡ bytesAfter s.waiting s.properties column kind bits text.now buffer.old }
+    ensures answer { result.wrote ≡ property_call s column kind bits text.now buffer.old }
+    ensures place { result.place ≡ property_place s column kind bits text.now buffer.old }
+    ensures bytes { buffer.new ≡ bytes_after s.waiting s.properties column kind bits text.now buffer.old }
 {
     let put = property_writer::put_property(
         s.waiting,

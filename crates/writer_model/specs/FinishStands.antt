@@ -11,23 +11,23 @@ use Rattle.kinds.specs.Lanes.{Lane, xyL, endsL, zL, mL, tL, tmL}
 use Rattle.kinds.specs.declared.geometry.Judged.TheVariants.{Good}
 use Rattle.kinds.specs.declared.geometry.Span.TheVariants.{Absent}
 use Rattle.store.specs.Lists.{Pools, Rec}
-use Rattle.store.specs.Records.{recordIn, recordsLent, putRecord}
+use Rattle.store.specs.Records.{record_in, records_lent, put_record}
 use Rattle.store.specs.RecordLaws.{put_same, put_other}
 use Rattle.asking.specs.declared.typing.Typing.{Typing}
 use Rattle.writing.specs.declared.state.State.{State}
 use Rattle.pending.specs.Words.{words_in}
-use Rattle.writing.specs.State.{withWaiting, withPending, Mem, memory}
-use Rattle.asking.specs.Ask.{noWords}
-use Rattle.pending.specs.Growth.{omitted, past, pastAll, part_of as part_at, rootOver as rootAt}
-use Rattle.writing.specs.Calls.{finished, rootOf, finishCall}
-use Rattle.writer_model.specs.Writer.{Writer, writer, rootOver, finish}
-use Rattle.writer_model.specs.Laid.{wordsOf, joined}
-use Rattle.writer_model.specs.Lanes.{words-by, none-by}
+use Rattle.writing.specs.State.{with_waiting, with_pending, Mem, memory}
+use Rattle.asking.specs.Ask.{no_words}
+use Rattle.pending.specs.Growth.{omitted, past, past_all, part_of as part_at, root_over as rootAt}
+use Rattle.writing.specs.Calls.{finished, root_of, finish_call}
+use Rattle.writer_model.specs.Writer.{Writer, writer, root_over, finish}
+use Rattle.writer_model.specs.Laid.{words_of, joined}
+use Rattle.writer_model.specs.Lanes.{words-by, none_by}
 use Rattle.writer_model.specs.Stands.{Shows, Stands}
-use Rattle.writer_model.specs.Stays.{parts-still, no-root}
+use Rattle.writer_model.specs.Stays.{parts-still, no_root}
 use Rattle.writer_model.specs.Took.{Room, took-finish}
-use Rattle.writer_model.specs.Pool.{lies-past}
-use Rattle.writer_model.specs.PartShown.{part-ends, part-sized, part-shown}
+use Rattle.writer_model.specs.Pool.{lies_past}
+use Rattle.writer_model.specs.PartShown.{part_ends, part_sized, part_shown}
 
 -- ---- the record of a root with type and parts alone
 root-sized : (kind parts : ℕ) → parts ≤ 4096 → GeometrySized (rootAt kind parts)
@@ -37,7 +37,7 @@ root-sized kind parts most = record { xy = absent; ends = absent; z = absent; m 
     absent : SpanSized Absent
     absent = record { start = omega arith; count = omega arith }
 
-root-shown : (s : State) (table : List ℕ) (P : Pools) (kind kind' n : ℕ) → kind ≡ kind' → s.parts ≡ n → s.parts + 1 ≤ 4096 → recordIn table 0 ≡ Good (rootAt kind s.parts)
+root-shown : (s : State) (table : List ℕ) (P : Pools) (kind kind' n : ℕ) → kind ≡ kind' → s.parts ≡ n → s.parts + 1 ≤ 4096 → record_in table 0 ≡ Good (rootAt kind s.parts)
     → Shows s (memory table P) 0 (record { kind = kind'; xy = none; ends = none; z = none; m = none; t = none; tm = none; parts = some (1, n) })
 unfolding rootAt
 root-shown s table P kind kind' n e f most r = record {
@@ -49,33 +49,33 @@ root-shown s table P kind kind' n e f most r = record {
 }
 
 -- ---- finish
-module _ (s : State) (k : Mem) (h : Typing) (pending : Pools) (room : Room s.pending noWords (s.parts + 1) k) where
-  in_table : 0 < recordsLent k.table
+module _ (s : State) (k : Mem) (h : Typing) (pending : Pools) (room : Room s.pending no_words (s.parts + 1) k) where
+  in_table : 0 < records_lent k.table
   in_table = omega (arith, room.table)
 
   -- no part: the pending lists are the root's
-  alone-stands : Stands s k (writer h pending [] none)
-      → Stands (withWaiting (withPending s (pastAll s.pending)) true) (memory (putRecord k.table 0 (part_at s.typing.current s.pending)) k.pools) (finish (writer h pending [] none))
-  unfolding finish pastAll
-  alone-stands st = record {
+  alone_stands : Stands s k (writer h pending [] none)
+      → Stands (with_waiting (with_pending s (past_all s.pending)) true) (memory (put_record k.table 0 (part_at s.typing.current s.pending)) k.pools) (finish (writer h pending [] none))
+  unfolding finish past_all
+  alone_stands st = record {
     typing = st.typing;
     waiting = refl;
     count = st.count;
     most = st.most;
-    starts = λ n. rw (words-by (λ m. past (words_in s.pending m) (omitted m)) n, part-ends k.pools s.pending (writer h pending [] none) st.pending n, append-nil) (omega (arith, st.starts n));
-    pending = λ n. rw (words-by (λ m. past (words_in s.pending m) (omitted m)) n, none-by n) (lies-past (st.pending n) (omitted n));
+    starts = λ n. rw (words-by (λ m. past (words_in s.pending m) (omitted m)) n, part_ends k.pools s.pending (writer h pending [] none) st.pending n, append-nil) (omega (arith, st.starts n));
+    pending = λ n. rw (words-by (λ m. past (words_in s.pending m) (omitted m)) n, none_by n) (lies_past (st.pending n) (omitted n));
     parts = tt;
-    root = part-shown k.pools s.pending (writer h pending [] none) st.pending _ _ 0 s.typing.current refl (ap (λ (x : Typing). x.current) st.typing) written;
+    root = part_shown k.pools s.pending (writer h pending [] none) st.pending _ _ 0 s.typing.current refl (ap (λ (x : Typing). x.current) st.typing) written;
   }
     where
-      written : recordIn (putRecord k.table 0 (part_at s.typing.current s.pending)) 0 ≡ Good (part_at s.typing.current s.pending)
-      written = put_same k.table 0 _ in_table (part-sized k.pools s.pending (writer h pending [] none) st.pending s.typing.current)
+      written : record_in (put_record k.table 0 (part_at s.typing.current s.pending)) 0 ≡ Good (part_at s.typing.current s.pending)
+      written = put_same k.table 0 _ in_table (part_sized k.pools s.pending (writer h pending [] none) st.pending s.typing.current)
 
   -- parts: a root with type and parts alone
-  over-stands : (p : Rec) (ps : List Rec) → Stands s k (writer h pending (p ∷ ps) none)
-      → Stands (withWaiting s true) (memory (putRecord k.table 0 (rootAt s.typing.current s.parts)) k.pools) (finish (writer h pending (p ∷ ps) none))
+  over_stands : (p : Rec) (ps : List Rec) → Stands s k (writer h pending (p ∷ ps) none)
+      → Stands (with_waiting s true) (memory (put_record k.table 0 (rootAt s.typing.current s.parts)) k.pools) (finish (writer h pending (p ∷ ps) none))
   unfolding finish
-  over-stands p ps st = record {
+  over_stands p ps st = record {
     typing = st.typing;
     waiting = refl;
     count = st.count;
@@ -86,20 +86,20 @@ module _ (s : State) (k : Mem) (h : Typing) (pending : Pools) (room : Room s.pen
     root = root-shown _ _ k.pools s.typing.current h.current (length (p ∷ ps)) (ap (λ (x : Typing). x.current) st.typing) st.count st.most written;
   }
     where
-      written : recordIn (putRecord k.table 0 (rootAt s.typing.current s.parts)) 0 ≡ Good (rootAt s.typing.current s.parts)
+      written : record_in (put_record k.table 0 (rootAt s.typing.current s.parts)) 0 ≡ Good (rootAt s.typing.current s.parts)
       written = put_same k.table 0 _ in_table (root-sized s.typing.current s.parts (omega (arith, st.most)))
 
-      bare : (n : Lane) → wordsOf (rootOver (writer h pending (p ∷ ps) none) (p ∷ ps)) n ≡ []
+      bare : (n : Lane) → words_of (root_over (writer h pending (p ∷ ps) none) (p ∷ ps)) n ≡ []
       bare n = elim n [ xyL ↦ refl | endsL ↦ refl | zL ↦ refl | mL ↦ refl | tL ↦ refl | tmL ↦ refl ]
 
-  finished-stands : (rs : List Rec) → Stands s k (writer h pending rs none) → Stands (finished s) (memory (putRecord k.table 0 (rootOf s)) k.pools) (finish (writer h pending rs none))
-  unfolding finished rootOf
-  finished-stands [] st = rw (eq-eqb s.parts 0 st.count) (alone-stands st)
-  finished-stands (p ∷ ps) st = rw (ne_eqb s.parts 0 (λ z. omega (arith, st.count))) (over-stands p ps st)
+  finished_stands : (rs : List Rec) → Stands s k (writer h pending rs none) → Stands (finished s) (memory (put_record k.table 0 (root_of s)) k.pools) (finish (writer h pending rs none))
+  unfolding finished root_of
+  finished_stands [] st = rw (eq-eqb s.parts 0 st.count) (alone_stands st)
+  finished_stands (p ∷ ps) st = rw (ne_eqb s.parts 0 (λ z. omega (arith, st.count))) (over_stands p ps st)
 
-pub finish-stands : (s : State) (k : Mem) (w : Writer) → Stands s k w → (finishCall s k).wrote.number ≡ 0 → Stands (finishCall s k).wrote.state (finishCall s k).mem (finish w)
-unfolding finishCall
-finish-stands s k w st q =
+pub finish_stands : (s : State) (k : Mem) (w : Writer) → Stands s k w → (finish_call s k).wrote.number ≡ 0 → Stands (finish_call s k).wrote.state (finish_call s k).mem (finish w)
+unfolding finish_call
+finish_stands s k w st q =
     let t = took-finish s k q in
-    let e : w ≡ writer w.typing w.pending w.parts none = ap (writer w.typing w.pending w.parts) (no-root s k w st t.going) in
-    rw (t.is, ap finish e) (finished-stands s k w.typing w.pending t.has w.parts (subst (Stands s k) e st))
+    let e : w ≡ writer w.typing w.pending w.parts none = ap (writer w.typing w.pending w.parts) (no_root s k w st t.going) in
+    rw (t.is, ap finish e) (finished_stands s k w.typing w.pending t.has w.parts (subst (Stands s k) e st))

@@ -5,16 +5,16 @@ use Rattle.writing.specs.declared.state.State.{State}
 use Rattle.pending.specs.Words.{words_in}
 use Rattle.writing.specs.State.{Mem}
 use Rattle.pending.specs.Growth.{fronted}
-use Rattle.writing.specs.Calls.{renewed, poolMoved, nextCall}
+use Rattle.writing.specs.Calls.{renewed, pool_moved, next_call}
 use Rattle.writer_model.specs.Writer.{Writer, next}
-use Rattle.writer_model.specs.Lanes.{words-by, pool-by}
+use Rattle.writer_model.specs.Lanes.{words-by, pool_by}
 use Rattle.writer_model.specs.Stands.{Stands}
 use Rattle.writer_model.specs.Took.{took-next}
-use Rattle.writer_model.specs.Pool.{lies-move}
+use Rattle.writer_model.specs.Pool.{lies_move}
 
-pub next-stands : (s : State) (k : Mem) (w : Writer) → Stands s k w → (nextCall s k).wrote.number ≡ 0 → Stands (nextCall s k).wrote.state (nextCall s k).mem (next w)
-unfolding nextCall renewed next
-next-stands s k w st q =
+pub next_stands : (s : State) (k : Mem) (w : Writer) → Stands s k w → (next_call s k).wrote.number ≡ 0 → Stands (next_call s k).wrote.state (next_call s k).mem (next w)
+unfolding next_call renewed next
+next_stands s k w st q =
     let t = took-next s k q in
     rw t.is (record {
       typing = st.typing;
@@ -22,7 +22,7 @@ next-stands s k w st q =
       count = refl;
       most = omega arith;
       starts = λ n. rw (words-by (λ m. fronted (words_in s.pending m)) n);
-      pending = λ n. rw (pool-by (poolMoved s k.pools) n, words-by (λ m. fronted (words_in s.pending m)) n) (lies-move (st.pending n));
+      pending = λ n. rw (pool_by (pool_moved s k.pools) n, words-by (λ m. fronted (words_in s.pending m)) n) (lies_move (st.pending n));
       parts = tt;
       root = tt;
     })

@@ -3,26 +3,26 @@ use Rattle.std.specs.Prelude.{◌≡◌, List, ℕ, ◌+◌, length}
 use Rattle.std.proofs.Math.Option.{none}
 use native.Mathlib.Omega.{arith}
 use Rattle.kinds.specs.Geometry.{GeometrySized}
-use Rattle.kinds.specs.Lanes.{Lane, xyL, endsL, zL, mL, tL, tmL, usable, spanIn}
+use Rattle.kinds.specs.Lanes.{Lane, xyL, endsL, zL, mL, tL, tmL, usable, span_in}
 use Rattle.kinds.specs.declared.geometry.Judged.TheVariants.{Good}
-use Rattle.store.specs.Records.{recordIn}
+use Rattle.store.specs.Records.{record_in}
 use Rattle.store.specs.RecordLaws.{InPool, InTable}
 use Rattle.store.specs.Lists.{Pools, lists_of}
 use Rattle.pending.specs.declared.words.Pending.{Pending}
 use Rattle.writing.specs.declared.state.State.{State}
 use Rattle.pending.specs.Words.{words_in}
-use Rattle.writing.specs.State.{poolIn, memory}
-use Rattle.pending.specs.Growth.{omitted, past, pastAll, part_of as part_at}
+use Rattle.writing.specs.State.{pool_in, memory}
+use Rattle.pending.specs.Growth.{omitted, past, past_all, part_of as part_at}
 use Rattle.writer_model.specs.Writer.{Writer, part_of}
-use Rattle.writer_model.specs.Laid.{wordsOf}
+use Rattle.writer_model.specs.Laid.{words_of}
 use Rattle.writer_model.specs.Lanes.{words-by}
 use Rattle.writer_model.specs.Stands.{Lies, Shows}
 use Rattle.writer_model.specs.Pool.{listed_has, shown-has, listed-sized, shown-sized}
 
-module _ (P : Pools) (p : Pending) (w : Writer) (h : (n : Lane) → Lies (poolIn P n) (words_in p n) (usable n) (poolIn w.pending n)) where
-  part-lists : (kind : ℕ) → kind ≡ w.typing.current → lists_of P (part_at kind p) ≡ part_of w
+module _ (P : Pools) (p : Pending) (w : Writer) (h : (n : Lane) → Lies (pool_in P n) (words_in p n) (usable n) (pool_in w.pending n)) where
+  part_lists : (kind : ℕ) → kind ≡ w.typing.current → lists_of P (part_at kind p) ≡ part_of w
   unfolding part_at part_of
-  part-lists kind e =
+  part_lists kind e =
       λ i. record {
         kind = e i;
         xy = (listed_has (h xyL)).list i;
@@ -34,9 +34,9 @@ module _ (P : Pools) (p : Pending) (w : Writer) (h : (n : Lane) → Lies (poolIn
         parts = none;
       }
 
-  part-below : (kind : ℕ) (n : Lane) → InPool (spanIn (part_at kind p) n) (past (words_in p n) (omitted n)).start (usable n)
+  part_below : (kind : ℕ) (n : Lane) → InPool (span_in (part_at kind p) n) (past (words_in p n) (omitted n)).start (usable n)
   unfolding part_at
-  part-below kind n =
+  part_below kind n =
       elim n [
         | xyL ↦ (listed_has (h xyL)).below
         | endsL ↦ (shown-has (h endsL) 1).below
@@ -47,9 +47,9 @@ module _ (P : Pools) (p : Pending) (w : Writer) (h : (n : Lane) → Lies (poolIn
       ]
 
   -- the next pending words begin where its words end
-  pub part-ends : (n : Lane) → (past (words_in p n) (omitted n)).start ≡ (words_in p n).start + length (wordsOf (part_of w) n)
+  pub part_ends : (n : Lane) → (past (words_in p n) (omitted n)).start ≡ (words_in p n).start + length (words_of (part_of w) n)
   unfolding part_of
-  part-ends n =
+  part_ends n =
       elim n [
         | xyL ↦ (listed_has (h xyL)).ends
         | endsL ↦ (shown-has (h endsL) 1).ends
@@ -59,9 +59,9 @@ module _ (P : Pools) (p : Pending) (w : Writer) (h : (n : Lane) → Lies (poolIn
         | tmL ↦ (shown-has (h tmL) 0).ends
       ]
 
-  pub part-sized : (kind : ℕ) → GeometrySized (part_at kind p)
+  pub part_sized : (kind : ℕ) → GeometrySized (part_at kind p)
   unfolding part_at
-  part-sized kind = record {
+  part_sized kind = record {
     xy = listed-sized (h xyL) (omega arith);
     ends = shown-sized (h endsL) 1 (omega arith);
     z = shown-sized (h zL) 0 (omega arith);
@@ -72,15 +72,15 @@ module _ (P : Pools) (p : Pending) (w : Writer) (h : (n : Lane) → Lies (poolIn
   }
 
   -- read from the table at a number, by a state whose pending words begin after it
-  pub part-shown : (s : State) (table : List ℕ) (n kind : ℕ) → s.pending ≡ pastAll p → kind ≡ w.typing.current → recordIn table n ≡ Good (part_at kind p) → Shows s (memory table P) n (part_of w)
-  unfolding pastAll
-  part-shown s table n kind past_is e r = record {
+  pub part_shown : (s : State) (table : List ℕ) (n kind : ℕ) → s.pending ≡ past_all p → kind ≡ w.typing.current → record_in table n ≡ Good (part_at kind p) → Shows s (memory table P) n (part_of w)
+  unfolding past_all
+  part_shown s table n kind past_is e r = record {
     geometry = part_at kind p;
     read = r;
-    lists = part-lists kind e;
-    below = λ m. rw (past_is, words-by (λ n. past (words_in p n) (omitted n)) m) (part-below kind m);
-    above = no-parts;
+    lists = part_lists kind e;
+    below = λ m. rw (past_is, words-by (λ n. past (words_in p n) (omitted n)) m) (part_below kind m);
+    above = no_parts;
   }
     where
-      no-parts : InTable (part_at kind p).parts n (s.parts + 1)
-      no-parts = unfold part_at in tt
+      no_parts : InTable (part_at kind p).parts n (s.parts + 1)
+      no_parts = unfold part_at in tt

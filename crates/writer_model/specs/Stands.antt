@@ -1,16 +1,16 @@
 -- Lent memory that stands for a writer on lists, and what of it a state uses: all else is free.
 use Rattle.std.specs.Prelude.{◌≡◌, true, List, ℕ, ◌+◌, ◌≤◌, length, take, drop}
 use Rattle.std.proofs.Math.Option.{Option, none, some}
-use Rattle.kinds.specs.Lanes.{Lane, usable, spanIn}
+use Rattle.kinds.specs.Lanes.{Lane, usable, span_in}
 use Rattle.kinds.specs.declared.geometry.Geometry.{Geometry}
 use Rattle.kinds.specs.declared.geometry.Judged.TheVariants.{Good}
-use Rattle.store.specs.Records.{recordIn}
+use Rattle.store.specs.Records.{record_in}
 use Rattle.store.specs.RecordLaws.{InPool, InTable}
 use Rattle.store.specs.Lists.{Rec, lists_of}
 use Rattle.pending.specs.declared.words.Words.{Words}
 use Rattle.writing.specs.declared.state.State.{State}
 use Rattle.pending.specs.Words.{words_in, used}
-use Rattle.writing.specs.State.{poolIn, Mem}
+use Rattle.writing.specs.State.{pool_in, Mem}
 use Rattle.writer_model.specs.Writer.{Writer, waits}
 use Rattle.writer_model.specs.Laid.{laid}
 use Rattle.writer_model.specs.Each.{Each}
@@ -24,9 +24,9 @@ pub record Lies (pool : List ℕ) (p : Words) (most : ℕ) (pending : List ℕ) 
 -- record n, with its lists, is r; the lists end before the pending words, and parts are above it, among the state's records
 pub record Shows (s : State) (k : Mem) (n : ℕ) (r : Rec) : Type 0 where
   pub geometry : Geometry
-  pub read : recordIn k.table n ≡ Good geometry
+  pub read : record_in k.table n ≡ Good geometry
   pub lists : lists_of k.pools geometry ≡ r
-  pub below : (m : Lane) → InPool (spanIn geometry m) (words_in s.pending m).start (usable m)
+  pub below : (m : Lane) → InPool (span_in geometry m) (words_in s.pending m).start (usable m)
   pub above : InTable geometry.parts n (s.parts + 1)
 
 abbrev pub IfThere : (Rec → Type 0) → Option Rec → Type 0
@@ -40,11 +40,11 @@ pub record Stands (s : State) (k : Mem) (w : Writer) : Type 0 where
   pub count : s.parts ≡ length w.parts
   pub most : s.parts + 1 ≤ 4096
   pub starts : (n : Lane) → (words_in s.pending n).start ≡ length (laid w n)
-  pub pending : (n : Lane) → Lies (poolIn k.pools n) (words_in s.pending n) (usable n) (poolIn w.pending n)
+  pub pending : (n : Lane) → Lies (pool_in k.pools n) (words_in s.pending n) (usable n) (pool_in w.pending n)
   pub parts : Each (Shows s k) 1 w.parts
   pub root : IfThere (Shows s k 0) w.root
 
 -- the words and records that a state uses are the same in both: its parts at records 1 to n, and record 0 once a finished feature waits
 pub record Agrees (s : State) (k k' : Mem) : Type 0 where
-  pub pools : (n : Lane) → take (used (words_in s.pending n)) (poolIn k'.pools n) ≡ take (used (words_in s.pending n)) (poolIn k.pools n)
-  pub table : (i : ℕ) → i ≤ s.parts → (i ≡ 0 → s.waiting ≡ true) → recordIn k'.table i ≡ recordIn k.table i
+  pub pools : (n : Lane) → take (used (words_in s.pending n)) (pool_in k'.pools n) ≡ take (used (words_in s.pending n)) (pool_in k.pools n)
+  pub table : (i : ℕ) → i ≤ s.parts → (i ≡ 0 → s.waiting ≡ true) → record_in k'.table i ≡ record_in k.table i

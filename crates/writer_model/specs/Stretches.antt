@@ -4,7 +4,7 @@ use Rattle.std.proofs.Common.{sym, ap, ◌∙◌, append_assoc, arith, length-ta
 use Rattle.std.proofs.lemmas.List.Edits.{sets}
 use Rattle.std.proofs.Math.Seq.{drop-append_seam}
 use Rattle.std.proofs.lemmas.List.{drop-append-le}
-use Rattle.laws.specs.Runs.{sets-split, take-sets}
+use Rattle.laws.specs.Runs.{sets_split, take-sets}
 
 stretch : (a c : ℕ) (l : List ℕ) → take c (drop a l) ≡ drop (length (take a l)) (take (a + c) l)
 stretch a c l = sym (ap (drop (length (take a l))) (take-add a c l) ∙ drop-append_seam (take a l) (take c (drop a l)))
@@ -14,8 +14,8 @@ module _ (n : ℕ) (l l' : List ℕ) (same : take n l' ≡ take n l) where
   pub front_same : (m : ℕ) → m ≤ n → take m l' ≡ take m l
   front_same m h = sym (take-take m n l' h) ∙ ap (take m) same ∙ take-take m n l h
 
-  pub stretch-same : (a c : ℕ) → a + c ≤ n → take c (drop a l') ≡ take c (drop a l)
-  stretch-same a c h =
+  pub stretch_same : (a c : ℕ) → a + c ≤ n → take c (drop a l') ≡ take c (drop a l)
+  stretch_same a c h =
       let p : a ≤ n = omega arith in
       stretch a c l' ∙ rw (front_same a p, front_same (a + c) h) (sym (stretch a c l))
 
@@ -26,12 +26,12 @@ module _ (n : ℕ) (l l' : List ℕ) (same : take n l' ≡ take n l) where
 module _ (l vs : List ℕ) (i : ℕ) (room : i + length vs ≤ length l) where
   pub front_kept : take i (sets l i vs) ≡ take i l
   front_kept =
-      ap (take i) (sets-split l vs i room ∙ append_assoc (take i l) vs (drop (i + length vs) l))
+      ap (take i) (sets_split l vs i room ∙ append_assoc (take i l) vs (drop (i + length vs) l))
       ∙ take_at (take i l) _ i (length-take-le i l (omega arith))
 
   -- a stretch that ends there is longer by them
-  pub stretch-longer : (a c : ℕ) → a + c ≡ i → take (c + length vs) (drop a (sets l i vs)) ≡ take c (drop a l) ++ vs
-  stretch-longer a c e =
+  pub stretch_longer : (a c : ℕ) → a + c ≡ i → take (c + length vs) (drop a (sets l i vs)) ≡ take c (drop a l) ++ vs
+  stretch_longer a c e =
       let n : a + (c + length vs) ≡ i + length vs = omega arith in
       let b : length (take a l) ≡ a = length-take-le a l (omega arith) in
       let d : a ≤ length (take i l) = omega (arith, length-take-le i l (omega arith)) in

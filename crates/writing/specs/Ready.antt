@@ -3,12 +3,12 @@ use Rattle.std.specs.Prelude.{◌≡◌, Bool, cond, not, ◌||◌, List, ℕ, �
 use Rattle.std.proofs.Math.Path.{refl, subst}
 use Rattle.std.proofs.Common.{sym, arith}
 use Rattle.std.proofs.Math.Bool.{true, false}
-use Rattle.kinds.specs.Lanes.{usable, lentIn}
+use Rattle.kinds.specs.Lanes.{usable, lent_in}
 use Rattle.kinds.specs.Event.{Parsed, WellFormed, Malformed}
 use Rattle.kinds.specs.declared.geometry.Lent.{Lent}
 use Rattle.store.specs.Lists.{lent_of}
-use Rattle.log.specs.Log.{heard, featureIn}
-use Rattle.store.specs.Records.{recordsLent}
+use Rattle.log.specs.Log.{heard, feature_in}
+use Rattle.store.specs.Records.{records_lent}
 use Rattle.asking.specs.declared.typing.Typing.{Typing}
 use Rattle.pending.specs.declared.words.Pending.{Pending}
 use Rattle.writing.specs.declared.feature.Feature.TheVariants.{Numbered}
@@ -17,16 +17,16 @@ use Rattle.writing.specs.declared.state.Wrote.{Wrote}
 use Rattle.asking.specs.declared.set_type.Typed.{Typed}
 use Rattle.asking.specs.declared.set_type.Typed.TheVariants.{Set, Mixed}
 use Rattle.asking.specs.declared.ask.Ask.{Ask}
-use Rattle.writing.specs.State.{with_typing, withParts, withFeature, withPending, recordsUsed, Mem}
-use Rattle.writing.specs.Due.{was-due, is-due, due-number}
-use Rattle.pending.specs.Growth.{grownAll, pastAll}
-use Rattle.asking.specs.Ask.{noWords, askOf}
-use Rattle.pending.specs.Room.{hasRoom, Room, room_of, grown-within, past-within}
-use Rattle.writing.specs.Calls.{recordsFor, stateAfter, decideTyped, decideEvent, eventWith, eventOf, eventCall}
+use Rattle.writing.specs.State.{with_typing, with_parts, with_feature, with_pending, records_used, Mem}
+use Rattle.writing.specs.Due.{was_due, is-due, due-number}
+use Rattle.pending.specs.Growth.{grown_all, past_all}
+use Rattle.asking.specs.Ask.{no_words, ask_of}
+use Rattle.pending.specs.Room.{has_room, Room, room_of_lem, grown_within, past_within}
+use Rattle.writing.specs.Calls.{records_for, state_after, decide_typed, decide_event, event_with, event_of, event_call}
 
 pub record Ready (s : State) (records : ℕ) (pools : Lent) : Type 0 where
   pub turn : s.waiting ≡ false
-  pub room : Room s.pending noWords (recordsUsed s) records pools
+  pub room : Room s.pending no_words (records_used s) records pools
 
 pub same-ready : {s s' : State} {records records' : ℕ} {pools pools' : Lent} → s ≡ s' → records ≡ records' → pools ≡ pools' → Ready s records pools → Ready s' records' pools'
 same-ready a b c ready = rw (← a, ← b, ← c) ready
@@ -36,27 +36,27 @@ none_or_some true n = omega arith
 none_or_some false n = omega arith
 
 module _ (s : State) (n : ℕ) (a : Ask) (records : ℕ) (pools : Lent) where
-  after-ready : (h : Typing) → s.waiting ≡ false → Room s.pending a.added (recordsFor s a) records pools → Ready (stateAfter s n a h) records pools
-  unfolding stateAfter
+  after-ready : (h : Typing) → s.waiting ≡ false → Room s.pending a.added (records_for s a) records pools → Ready (state_after s n a h) records pools
+  unfolding state_after
   after-ready h turn room = by_part a.part room
     where
       grown : Pending
-      grown = grownAll s.pending a.added
+      grown = grown_all s.pending a.added
 
       then : State
-      then = withFeature (with_typing s h) (Numbered n)
+      then = with_feature (with_typing s h) (Numbered n)
 
-      by_part : (b : Bool) → Room s.pending a.added (cond b (s.parts + 2) (recordsUsed s)) records pools
-          → Ready (cond b (withParts (withPending then (pastAll grown)) (s.parts + 1)) (withPending then grown)) records pools
+      by_part : (b : Bool) → Room s.pending a.added (cond b (s.parts + 2) (records_used s)) records pools
+          → Ready (cond b (with_parts (with_pending then (past_all grown)) (s.parts + 1)) (with_pending then grown)) records pools
       by_part true r =
           let few = none_or_some (s.waiting || not (eqb (s.parts + 1) 0)) (s.parts + 1 + 1) in
           record {
             turn = turn;
             room = record {
               table = omega (arith, few, r.table);
-              records-fit = omega (arith, few, r.records-fit);
-              words = past-within grown (lentIn pools) (grown-within s.pending a.added (lentIn pools) r.words);
-              fits = past-within grown usable (grown-within s.pending a.added usable r.fits);
+              records_fit = omega (arith, few, r.records_fit);
+              words = past_within grown (lent_in pools) (grown_within s.pending a.added (lent_in pools) r.words);
+              fits = past_within grown usable (grown_within s.pending a.added usable r.fits);
             };
           }
       by_part false r =
@@ -64,28 +64,28 @@ module _ (s : State) (n : ℕ) (a : Ask) (records : ℕ) (pools : Lent) where
             turn = turn;
             room = record {
               table = r.table;
-              records-fit = r.records-fit;
-              words = grown-within s.pending a.added (lentIn pools) r.words;
-              fits = grown-within s.pending a.added usable r.fits;
+              records_fit = r.records_fit;
+              words = grown_within s.pending a.added (lent_in pools) r.words;
+              fits = grown_within s.pending a.added usable r.fits;
             };
           }
 
-  decided-ready : (decideEvent s n a records pools).number ≡ 0 → Ready (decideEvent s n a records pools).state records pools
-  unfolding decideEvent
+  decided-ready : (decide_event s n a records pools).number ≡ 0 → Ready (decide_event s n a records pools).state records pools
+  unfolding decide_event
   decided-ready ok =
       subst (λ (w : Wrote). Ready w.state records pools) (sym (is-due s n _ ok))
-      (by-case (hasRoom s.pending a.added (recordsFor s a) records pools) a.typed (was-due s n _ ok).turn refl (due-number s n _ ok))
+      (by_case (has_room s.pending a.added (records_for s a) records pools) a.typed (was_due s n _ ok).turn refl (due-number s n _ ok))
     where
-      by-case : (room : Bool) (t : Typed) → s.waiting ≡ false → hasRoom s.pending a.added (recordsFor s a) records pools ≡ room
-          → (decideTyped s n a room t).number ≡ 0 → Ready (decideTyped s n a room t).state records pools
-      by-case room Mixed turn has ok = absurd (omega arith)
-      by-case false (Set h) turn has ok = absurd (omega arith)
-      by-case true (Set h) turn has ok = after-ready h turn (room_of _ _ _ _ _ has)
+      by_case : (room : Bool) (t : Typed) → s.waiting ≡ false → has_room s.pending a.added (records_for s a) records pools ≡ room
+          → (decide_typed s n a room t).number ≡ 0 → Ready (decide_typed s n a room t).state records pools
+      by_case room Mixed turn has ok = absurd (omega arith)
+      by_case false (Set h) turn has ok = absurd (omega arith)
+      by_case true (Set h) turn has ok = after-ready h turn (room_of_lem _ _ _ _ _ has)
 
-pub event-ready : (s : State) (k : Mem) (bytes : List ℕ) → (eventCall s k bytes).wrote.number ≡ 0 → Ready (eventCall s k bytes).wrote.state (recordsLent k.table) (lent_of k.pools)
-unfolding eventCall eventWith
-event-ready s k bytes = by-record (featureIn bytes) (heard bytes)
+pub event-ready : (s : State) (k : Mem) (bytes : List ℕ) → (event_call s k bytes).wrote.number ≡ 0 → Ready (event_call s k bytes).wrote.state (records_lent k.table) (lent_of k.pools)
+unfolding event_call event_with
+event-ready s k bytes = by_record (feature_in bytes) (heard bytes)
   where
-    by-record : (n : ℕ) (p : Parsed) → (eventOf s k n p).wrote.number ≡ 0 → Ready (eventOf s k n p).wrote.state (recordsLent k.table) (lent_of k.pools)
-    by-record n Malformed ok = absurd (omega arith)
-    by-record n (WellFormed e) ok = decided-ready s n (askOf s.typing e) (recordsLent k.table) (lent_of k.pools) ok
+    by_record : (n : ℕ) (p : Parsed) → (event_of s k n p).wrote.number ≡ 0 → Ready (event_of s k n p).wrote.state (records_lent k.table) (lent_of k.pools)
+    by_record n Malformed ok = absurd (omega arith)
+    by_record n (WellFormed e) ok = decided-ready s n (ask_of s.typing e) (records_lent k.table) (lent_of k.pools) ok

@@ -1,7 +1,7 @@
 -- SPEC 6.1, 4.5: a writer's state by lane, the lent memory, and what the state uses of it.
 use Rattle.std.specs.Prelude.{Bool, false, cond, not, ◌||◌, List, ℕ, ◌+◌, eqb}
 use Rattle.kinds.specs.Lanes.{Lane, xyL, endsL, zL, mL, tL, tmL}
-use Rattle.store.specs.Lists.{Pools, poolsOf}
+use Rattle.store.specs.Lists.{Pools, pools_of}
 use Rattle.asking.specs.declared.typing.Typing.{Typing}
 use Rattle.pending.specs.declared.words.Pending.{Pending}
 use Rattle.writing.specs.declared.feature.Feature.{Feature}
@@ -9,45 +9,45 @@ use Rattle.writing.specs.declared.feature.Feature.TheVariants.{Open}
 use Rattle.writing.specs.declared.state.State.{State}
 use Rattle.writing.specs.declared.state.Wrote.{Wrote}
 use Rattle.asking.specs.SetType.{typing}
-use Rattle.pending.specs.Words.{words, pendingOf}
+use Rattle.pending.specs.Words.{words, pending_of}
 
 -- ---- a writer that nothing was given; every other state is one that a call changed, field by field
 abbrev pub fresh : State
-fresh = record { typing = typing 0 false false 0 0; waiting = false; parts = 0; properties = 0; feature = Open; pending = pendingOf (λ n. words 0 0) }
+fresh = record { typing = typing 0 false false 0 0; waiting = false; parts = 0; properties = 0; feature = Open; pending = pending_of (λ n. words 0 0) }
 
 abbrev pub with_typing : State → Typing → State
 with_typing s h = record { typing = h; waiting = s.waiting; parts = s.parts; properties = s.properties; feature = s.feature; pending = s.pending }
 
-abbrev pub withWaiting : State → Bool → State
-withWaiting s waiting = record { typing = s.typing; waiting = waiting; parts = s.parts; properties = s.properties; feature = s.feature; pending = s.pending }
+abbrev pub with_waiting : State → Bool → State
+with_waiting s waiting = record { typing = s.typing; waiting = waiting; parts = s.parts; properties = s.properties; feature = s.feature; pending = s.pending }
 
-abbrev pub withParts : State → ℕ → State
-withParts s parts = record { typing = s.typing; waiting = s.waiting; parts = parts; properties = s.properties; feature = s.feature; pending = s.pending }
+abbrev pub with_parts : State → ℕ → State
+with_parts s parts = record { typing = s.typing; waiting = s.waiting; parts = parts; properties = s.properties; feature = s.feature; pending = s.pending }
 
-abbrev pub withProperties : State → ℕ → State
-withProperties s properties = record { typing = s.typing; waiting = s.waiting; parts = s.parts; properties = properties; feature = s.feature; pending = s.pending }
+abbrev pub with_properties : State → ℕ → State
+with_properties s properties = record { typing = s.typing; waiting = s.waiting; parts = s.parts; properties = properties; feature = s.feature; pending = s.pending }
 
-abbrev pub withFeature : State → Feature → State
-withFeature s feature = record { typing = s.typing; waiting = s.waiting; parts = s.parts; properties = s.properties; feature = feature; pending = s.pending }
+abbrev pub with_feature : State → Feature → State
+with_feature s feature = record { typing = s.typing; waiting = s.waiting; parts = s.parts; properties = s.properties; feature = feature; pending = s.pending }
 
-abbrev pub withPending : State → Pending → State
-withPending s pending = record { typing = s.typing; waiting = s.waiting; parts = s.parts; properties = s.properties; feature = s.feature; pending = pending }
+abbrev pub with_pending : State → Pending → State
+with_pending s pending = record { typing = s.typing; waiting = s.waiting; parts = s.parts; properties = s.properties; feature = s.feature; pending = pending }
 
 -- a state uses records 1 to n for its parts, and record 0 once a finished feature waits; with no part and nothing finished, no record
-abbrev pub recordsUsed : State → ℕ
-recordsUsed s = cond (s.waiting || not (eqb s.parts 0)) (s.parts + 1) 0
+abbrev pub records_used : State → ℕ
+records_used s = cond (s.waiting || not (eqb s.parts 0)) (s.parts + 1) 0
 
 -- ---- the lent memory
-abbrev pub poolIn : Pools → Lane → List ℕ
-poolIn P xyL = P.xy
-poolIn P endsL = P.ends
-poolIn P zL = P.z
-poolIn P mL = P.m
-poolIn P tL = P.t
-poolIn P tmL = P.tm
+abbrev pub pool_in : Pools → Lane → List ℕ
+pool_in P xyL = P.xy
+pool_in P endsL = P.ends
+pool_in P zL = P.z
+pool_in P mL = P.m
+pool_in P tL = P.t
+pool_in P tmL = P.tm
 
-abbrev pub poolsBy : (Lane → List ℕ) → Pools
-poolsBy f = poolsOf (f xyL) (f endsL) (f zL) (f mL) (f tL) (f tmL)
+abbrev pub pools_by : (Lane → List ℕ) → Pools
+pools_by f = pools_of (f xyL) (f endsL) (f zL) (f mL) (f tL) (f tmL)
 
 pub record Mem : Type 0 where
   pub table : List ℕ
@@ -58,7 +58,7 @@ memory table pools = record { table = table; pools = pools }
 
 -- the seven lent slices
 abbrev pub mem_of : List ℕ → List ℕ → List ℕ → List ℕ → List ℕ → List ℕ → List ℕ → Mem
-mem_of table xy ends z m t tm = memory table (poolsOf xy ends z m t tm)
+mem_of table xy ends z m t tm = memory table (pools_of xy ends z m t tm)
 
 -- ---- what a call comes to: answer, state, and the final contents of all lent memory
 pub record Outcome : Type 0 where

@@ -1,10 +1,10 @@
 // What a call answers, and the state after it, from the state and what is lent: no memory is touched.
 ghost use Rattle.std.specs.Prelude.{◌≡◌, true, ◌+◌, ◌≤◌};
-ghost use Rattle.writing.specs.State.{withWaiting, withPending};
-ghost use Rattle.asking.specs.Ask.{noWords, OnlyEnds};
-ghost use Rattle.writing.specs.Calls.{stateAfter, finished, decideFinish, renewed, decideNext};
+ghost use Rattle.writing.specs.State.{with_waiting, with_pending};
+ghost use Rattle.asking.specs.Ask.{no_words, OnlyEnds};
+ghost use Rattle.writing.specs.Calls.{state_after, finished, decide_finish, renewed, decide_next};
 ghost use Rattle.pending.specs.Room.{Fits};
-ghost use Rattle.writing.specs.Other.{decideOther};
+ghost use Rattle.writing.specs.Other.{decide_other};
 
 use crate::feature::{Feature, belongs};
 use crate::ready::other_room;
@@ -21,7 +21,7 @@ use pending::words::Pending;
 fn state_after(s: State, n: u32, a: Ask, typing: Typing) -> State
     requires fits { Fits s.pending a.added }
     requires records { a.part ≡ true → s.parts + 2 ≤ 4096 }
-    ensures { result ≡ stateAfter s n a typing }
+    ensures { result ≡ state_after s n a typing }
 {
     let added = a.added;
     let pending = grown_all(s.pending, added);
@@ -40,9 +40,9 @@ fn state_after(s: State, n: u32, a: Ask, typing: Typing) -> State
 // A begin or an end of a feature's number, where it is known whether the writer is ready. It asks for room for a part's record and
 // for an end.
 pub fn decide_other(s: State, n: u32, a: Ask, ready: bool, records: usize, ends: usize) -> Wrote
-    requires fits { ready ≡ true → Fits s.pending noWords }
+    requires fits { ready ≡ true → Fits s.pending no_words }
     requires ends { OnlyEnds a }
-    ensures { result ≡ decideOther s n a ready records ends }
+    ensures { result ≡ decide_other s n a ready records ends }
 {
     if s.waiting {
         return Wrote {
@@ -82,7 +82,7 @@ pub fn decide_other(s: State, n: u32, a: Ask, ready: bool, records: usize, ends:
 
 // The typing stays: the next feature begins with it.
 fn waiting_with(s: State, pending: Pending) -> State
-    ensures { result ≡ withWaiting (withPending s pending) true }
+    ensures { result ≡ with_waiting (with_pending s pending) true }
 {
     let mut after = s;
     after.waiting = true;
@@ -92,7 +92,7 @@ fn waiting_with(s: State, pending: Pending) -> State
 
 // What is pending beside parts stays pending, for the next feature.
 fn finished(s: State) -> State
-    requires { Fits s.pending noWords }
+    requires { Fits s.pending no_words }
     ensures { result ≡ finished s }
 {
     if s.parts == 0 {
@@ -103,7 +103,7 @@ fn finished(s: State) -> State
 }
 
 pub fn decide_finish(s: State, records: usize, pools: Lent) -> Wrote
-    ensures { result ≡ decideFinish s records pools }
+    ensures { result ≡ decide_finish s records pools }
 {
     if s.waiting {
         return Wrote {
@@ -147,7 +147,7 @@ fn renewed(s: State) -> State
 }
 
 pub fn decide_next(s: State, records: usize, pools: Lent) -> Wrote
-    ensures { result ≡ decideNext s records pools }
+    ensures { result ≡ decide_next s records pools }
 {
     if !s.waiting {
         return Wrote {

@@ -1,6 +1,6 @@
 // A writer's state: small numbers by value, handed in and handed back.
 ghost use Rattle.std.specs.Prelude.{◌≡◌};
-ghost use Rattle.writing.specs.State.{withFeature};
+ghost use Rattle.writing.specs.State.{with_feature};
 
 use crate::feature::Feature;
 use asking::typing::Typing;
@@ -18,7 +18,7 @@ pub struct State {
 
 impl State {
     pub fn with_feature(self, feature: Feature) -> State
-        ensures { result ≡ withFeature self feature }
+        ensures { result ≡ with_feature self feature }
     {
         let typing = self.typing;
         let pending = self.pending;

@@ -1,7 +1,7 @@
 use Rattle.writing.specs.declared.state.State.{State}
 use Rattle.writing.specs.State.{Mem, mem_of}
-use Rattle.runs.specs.Events.{eventsCall}
-use Rattle.bintolage.specs.CallLaws.{taken-call}
+use Rattle.runs.specs.Events.{events_call}
+use Rattle.bintolage.specs.CallLaws.{taken_call}
 use borrow.Author.Rules.{rules}
 use Rattle.bintolage.proofs.bintolage_events.Statement.{statement}
 use Rattle.bintolage.proofs.bintolage_events.Tie as tie
@@ -10,8 +10,8 @@ use Rattle.bintolage.proofs.bintolage_events.Tie as tie
 abbrev lends : tie.Start → Mem
 lends c = mem_of c.args.table.now c.args.xy.now c.args.ends.now c.args.z.now c.args.m.now c.args.t.now c.args.tm.now
 
-pub bintolage-events-spec : {M : Type 1} → statement M
-bintolage-events-spec =
+pub bintolage_events_spec : {M : Type 1} → statement M
+bintolage_events_spec =
     tie.close
     (tie.spec
     (λ c κs. search rules)
@@ -28,4 +28,4 @@ bintolage-events-spec =
     let events = c.before.before.before.before.before.before.before.before.before.before.before.before.before.before.before.before.before.events in
     let known = c.before.before.before.before.before.before.before.before.before.before.before.before.before.before.before.before.before.before.before.before.before.before.before.before.before in
     let kept = c.keep_all.ensures in
-    taken-call (λ (s : State). eventsCall s (lends start) start.args.events.now) start.args.state.now _ known.state-of.ensures events.ensures kept.0 kept.1.0 kept.1.1))
+    taken_call (λ (s : State). events_call s (lends start) start.args.events.now) start.args.state.now _ known.state-of.ensures events.ensures kept.0 kept.1.0 kept.1.1))

@@ -1,7 +1,7 @@
 use Rattle.writing.specs.declared.state.State.{State}
 use Rattle.writing.specs.State.{Mem, mem_of}
-use Rattle.writing.specs.Calls.{finishCall}
-use Rattle.bintolage.specs.CallLaws.{kept-call}
+use Rattle.writing.specs.Calls.{finish_call}
+use Rattle.bintolage.specs.CallLaws.{kept_call}
 use borrow.Author.Rules.{rules}
 use Rattle.bintolage.proofs.bintolage_finish.Statement.{statement}
 use Rattle.bintolage.proofs.bintolage_finish.Tie as tie
@@ -10,9 +10,9 @@ use Rattle.bintolage.proofs.bintolage_finish.Tie as tie
 abbrev lends : tie.Start → Mem
 lends c = mem_of c.args.table.now c.args.xy.now c.args.ends.now c.args.z.now c.args.m.now c.args.t.now c.args.tm.now
 
-pub bintolage-finish-spec : {M : Type 1} → statement M
-bintolage-finish-spec =
+pub bintolage_finish_spec : {M : Type 1} → statement M
+bintolage_finish_spec =
     tie.close (tie.spec (λ c κs. search rules) (λ c κs. search rules) (λ c κs. search rules) (λ c. search rules) (λ c. let start = c.before.before.before.before.before.before.before.before.before.before.before.before.before.before.before in
     let finish = c.before.before.before.before.finish in
     let known = c.before.before.before.before.before.before in
-    kept-call (λ (s : State). finishCall s (lends start)) start.args.state.now _ known.state-of.ensures finish.ensures c.keep.ensures.0 c.keep.ensures.1))
+    kept_call (λ (s : State). finish_call s (lends start)) start.args.state.now _ known.state-of.ensures finish.ensures c.keep.ensures.0 c.keep.ensures.1))

@@ -3,8 +3,8 @@ use borrow.Author.Rules.{rules}
 use Rattle.bintolage.proofs.bintolage_property.Statement.{statement}
 use Rattle.bintolage.proofs.bintolage_property.Tie as tie
 
-pub bintolage-property-spec : {M : Type 1} → statement M
-bintolage-property-spec =
+pub bintolage_property_spec : {M : Type 1} → statement M
+bintolage_property_spec =
     tie.close
     (tie.spec
     (λ c κs. search rules)

@@ -5,6 +5,6 @@ use borrow.Author.Rules.{rules}
 use Rattle.bintolage.proofs.bintolage_read_wkb.Statement.{statement}
 use Rattle.bintolage.proofs.bintolage_read_wkb.Tie as tie
 
-pub bintolage-read-wkb-spec : {M : Type 1} → statement M
-bintolage-read-wkb-spec =
+pub bintolage_read_wkb_spec : {M : Type 1} → statement M
+bintolage_read_wkb_spec =
     tie.close (tie.spec (λ c κs. search rules) (λ c. omega (arith, count_most (events _) _ _ c.before.before.before.read-wkb.ensures)) (λ c. search rules) (λ c. c.before.before.before.read-wkb.ensures))

@@ -1,14 +1,14 @@
 use Prim.Native.Nat.{◌*◌, ◌-◌}
 use native.Mathlib.Omega.{arith}
 use borrow.Author.Rules.{rules}
-use Rattle.compared.specs.ComparedLaws.{never, as-given}
+use Rattle.compared.specs.ComparedLaws.{never, as_given}
 use Rattle.compared.proofs.comes_back.Statement.{statement}
 use Rattle.compared.proofs.comes_back.Tie as tie
 
-returns-4 : tie.Need-returns-4
-returns-4 c =
+returns_4 : tie.Need-returns-4
+returns_4 c =
     let args = c.before.before.before.before.before.before.before.before.args in
-    as-given
+    as_given
     c.same.result
     args.events
     args.count
@@ -21,8 +21,8 @@ returns-4 c =
     (omega arith)
     c.same.ensures
 
-pub comes-back-spec : {M : Type 1} → statement M
-comes-back-spec =
+pub comes_back_spec : {M : Type 1} → statement M
+comes_back_spec =
     tie.close
     (tie.spec
     (λ c. never (λ g. c.if1.true g.as_many))
@@ -36,4 +36,4 @@ comes-back-spec =
     (λ c. search rules)
     (λ c. search rules)
     (λ c κs. search rules)
-    returns-4)
+    returns_4)

@@ -1,22 +1,22 @@
-use Rattle.laws.specs.Framed.{no-begin, no_body, to_end}
+use Rattle.laws.specs.Framed.{no_begin, no_body, to_end}
 use Rattle.log.specs.Log.{events}
-use Rattle.lone_ring.specs.Lone.{lone-ring}
+use Rattle.lone_ring.specs.Lone.{lone_ring}
 use borrow.Author.Rules.{rules}
 use Rattle.lone_ring.proofs.read_lone_ring.Statement.{statement}
 use Rattle.lone_ring.proofs.read_lone_ring.Tie as tie
 
-pub read-lone-ring-spec : {M : Type 1} → statement M
-read-lone-ring-spec =
+pub read_lone_ring_spec : {M : Type 1} → statement M
+read_lone_ring_spec =
     tie.close
     (tie.spec
     (λ c κs. search rules)
     (λ c κs. search rules)
     (λ c. search rules)
-    (λ c. let a = c.before.before.before.before.before.before.before.before.before.args in rw (lone-ring a.xy.now a.idx) (no-begin (events a.feature) _ _ _ _ c.before.before.before.before.before.begin.ensures c.before.before.before.before.say.ensures c.if1.true))
+    (λ c. let a = c.before.before.before.before.before.before.before.before.before.args in rw (lone_ring a.xy.now a.idx) (no_begin (events a.feature) _ _ _ _ c.before.before.before.before.before.begin.ensures c.before.before.before.before.say.ensures c.if1.true))
     (λ c κs. search rules)
     (λ c. search rules)
-    (λ c. let a = c.before.before.before.before.before.before.before.before.before.before.before.before.before.before.before.args in rw (lone-ring a.xy.now a.idx) (no_body (events a.feature) _ _ _ _ c.before.before.before.before.before.before.before.before.before.before.before.begin.ensures c.before.before.before.before.before.before.before.before.before.before.say.ensures c.before.before.before.before.before.before.if1.false c.before.before.before.before.read-lone-line.ensures c.if2.true))
+    (λ c. let a = c.before.before.before.before.before.before.before.before.before.before.before.before.before.before.before.args in rw (lone_ring a.xy.now a.idx) (no_body (events a.feature) _ _ _ _ c.before.before.before.before.before.before.before.before.before.before.before.begin.ensures c.before.before.before.before.before.before.before.before.before.before.say.ensures c.before.before.before.before.before.before.if1.false c.before.before.before.before.read-lone-line.ensures c.if2.true))
     (λ c κs. search rules)
     (λ c κs. search rules)
     (λ c. search rules)
-    (λ c. let a = c.before.before.before.before.before.before.before.before.before.before.before.before.before.before.before.before.before.before.before.before.args in rw (lone-ring a.xy.now a.idx) (to_end (events a.feature) _ _ _ _ c.before.before.before.before.before.before.before.before.before.before.before.before.before.before.before.before.begin.ensures c.before.before.before.before.before.before.before.before.before.before.before.before.before.before.before.say.ensures c.before.before.before.before.before.before.before.before.before.before.before.if1.false c.before.before.before.before.before.before.before.before.before.read-lone-line.ensures c.before.before.before.before.before.if2.false c.before.before.before.end.ensures c.before.before.say2.ensures)))
+    (λ c. let a = c.before.before.before.before.before.before.before.before.before.before.before.before.before.before.before.before.before.before.before.before.args in rw (lone_ring a.xy.now a.idx) (to_end (events a.feature) _ _ _ _ c.before.before.before.before.before.before.before.before.before.before.before.before.before.before.before.before.begin.ensures c.before.before.before.before.before.before.before.before.before.before.before.before.before.before.before.say.ensures c.before.before.before.before.before.before.before.before.before.before.before.if1.false c.before.before.before.before.before.before.before.before.before.read-lone-line.ensures c.before.before.before.before.before.if2.false c.before.before.before.end.ensures c.before.before.say2.ensures)))

@@ -14,8 +14,8 @@ invariant-loop pool₀ start count i₀ pool i = (length pool ≡ length pool₀
 abbrev decreases-loop : tie.decreases-loop
 decreases-loop pool₀ start count i₀ pool i = count - i
 
-pub move-words-spec : {M : Type 1} → statement M
-move-words-spec =
+pub move_words_spec : {M : Type 1} → statement M
+move_words_spec =
     tie.close
     (tie.spec
     invariant-loop

@@ -6,8 +6,8 @@ use Rattle.pending.specs.Words.{used as spec-used}
 use Rattle.pools.proofs.push_pair.Statement.{statement}
 use Rattle.pools.proofs.push_pair.Tie as tie
 
-pub push-pair-spec : {M : Type 1} → statement M
-push-pair-spec =
+pub push_pair_spec : {M : Type 1} → statement M
+push_pair_spec =
     tie.close
     (tie.spec
     (λ c κs. search rules)

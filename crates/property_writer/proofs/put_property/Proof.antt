@@ -4,13 +4,13 @@ use native.Mathlib.Omega.{arith}
 use lib.ListN.{length}
 use borrow.Author.Rules.{rules}
 use Rattle.property_writer.specs.declared.PropertyPut.{PropertyPut}
-use Rattle.property_writer.specs.Writing.{refusalOf}
-use Rattle.property_writer.specs.WritingLaws.{Accepted, accepted, length-property, refused, put-done, bytes-done}
+use Rattle.property_writer.specs.Writing.{refusal_of}
+use Rattle.property_writer.specs.WritingLaws.{Accepted, accepted, length_property, refused, put-done, bytes-done}
 use Rattle.property_writer.proofs.put_property.Statement.{statement}
 use Rattle.property_writer.proofs.put_property.Tie as tie
 
 none : (c : tie.Else1) → let a = c.before.before.before.before.before.args in
-    refusalOf a.waiting a.used a.column a.kind a.bits a.text.now (length a.buffer.now) ≡ 0
+    refusal_of a.waiting a.used a.column a.kind a.bits a.text.now (length a.buffer.now) ≡ 0
 none c = sym (ap (λ (r : PropertyPut). r.number) c.before.before.refusal-of.ensures) ∙ c.if1.false
 
 facts : (c : tie.Else1) → let a = c.before.before.before.before.before.args in
@@ -23,10 +23,10 @@ grown : (c : tie.After-property-length) → c.before.before.before.before.before
 grown c =
     let after = c.before.before.before.before.before in
     let a = after.before.before.before.before.before.args in
-    omega (arith, (facts after).usable, length-property a.column a.kind a.bits a.text.now, c.property-length.ensures)
+    omega (arith, (facts after).usable, length_property a.column a.kind a.bits a.text.now, c.property-length.ensures)
 
-pub put-property-spec : {M : Type 1} → statement M
-put-property-spec =
+pub put_property_spec : {M : Type 1} → statement M
+put_property_spec =
     tie.close
     (tie.spec
     (λ c κs. search rules)
@@ -47,7 +47,7 @@ put-property-spec =
     let a = after.before.before.before.before.before.args in (
       rw (
         put-done a.waiting a.used a.column a.kind a.bits a.text.now a.buffer.now (none after),
-        length-property a.column a.kind a.bits a.text.now,
+        length_property a.column a.kind a.bits a.text.now,
         ← c.property-length.ensures,
       ),
       rw (bytes-done a.waiting a.used a.column a.kind a.bits a.text.now a.buffer.now (none after)) c.before.before.before.lay-property.ensures,

@@ -6,16 +6,16 @@ use lib.Dec.{ltb}
 use borrow.Author.Rules.{rules}
 use borrow.Author.Tests.{lt-ltb, le-ltb}
 use Rattle.property_value.specs.Value.{Checked, placed}
-use Rattle.property_writer.specs.Writing.{refusalOf}
-use Rattle.property_writer.specs.WritingLaws.{length-property, length_most}
+use Rattle.property_writer.specs.Writing.{refusal_of}
+use Rattle.property_writer.specs.WritingLaws.{length_property, length_most}
 use Rattle.property_writer.proofs.refusal_of.Statement.{statement}
 use Rattle.property_writer.proofs.refusal_of.Tie as tie
 
 -- where only the room is left to ask about
 only-room : (c : tie.After-usable-length) → let a = c.before.before.before.before.before.before.before.before.before.before.args in
-    refusalOf a.waiting a.used a.column a.kind a.bits a.text.now a.lent
+    refusal_of a.waiting a.used a.column a.kind a.bits a.text.now a.lent
     ≡ cond (ltb c.usable-length.result (a.used + c.before.property-length.result)) 12 0
-unfolding refusalOf
+unfolding refusal_of
 only-room c =
     let spelt = c.before.before in
     let formed = spelt.before.before.before in
@@ -28,22 +28,22 @@ only-room c =
       ← formed.before.is-malformed.ensures,
       formed.if3.false,
       subst (Checked a.kind a.text.now) spelt.enum_told.given.1 spelt.before.before.bad-if-text.ensures,
-      length-property a.column a.kind a.bits a.text.now,
+      length_property a.column a.kind a.bits a.text.now,
       ← c.before.property-length.ensures,
       ← c.usable-length.ensures,
     )
 
-pub refusal-of-spec : {M : Type 1} → statement M
-refusal-of-spec =
+pub refusal_of_spec : {M : Type 1} → statement M
+refusal_of_spec =
     tie.close
     (tie.spec
     (λ c κs. search rules)
-    (λ c. unfold refusalOf placed in rw (c.unplaced.ensures, c.before.if1.true))
+    (λ c. unfold refusal_of placed in rw (c.unplaced.ensures, c.before.if1.true))
     (λ c κs. search rules)
-    (λ c. unfold refusalOf placed in rw (c.unplaced2.ensures, c.before.before.if1.false, lt-ltb 65535 _ c.before.if2.true))
+    (λ c. unfold refusal_of placed in rw (c.unplaced2.ensures, c.before.before.if1.false, lt-ltb 65535 _ c.before.if2.true))
     (λ c κs. search rules)
     (λ c κs. search rules)
-    (λ c. unfold refusalOf placed in
+    (λ c. unfold refusal_of placed in
     let indexed = c.before.before.before in
     rw (
       c.unplaced3.ensures,
@@ -54,7 +54,7 @@ refusal-of-spec =
     ))
     (λ c κs. search rules)
     (λ c. search rules)
-    (λ c. unfold refusalOf placed in
+    (λ c. unfold refusal_of placed in
     let asked = c.before.before.before in
     let formed = asked.before in
     let indexed = formed.before.before in

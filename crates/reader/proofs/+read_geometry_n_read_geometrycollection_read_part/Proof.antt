@@ -6,18 +6,18 @@ use mathlib.Core.Bool.{false}
 use Prim.Native.Nat.{◌+◌, ◌-◌, ◌*◌, ◌≤◌}
 use lib.ListN.{length}
 use Rattle.laws.specs.Script.{Script, one, ◌⨟◌, run}
-use Rattle.laws.specs.Framed.{went_on, broke-off, ended, no-begin, began}
-use Rattle.kinds.specs.Event.{endE}
+use Rattle.laws.specs.Framed.{went_on, broke_off, ended, no_begin, began}
+use Rattle.kinds.specs.Event.{end_e}
 use Rattle.kinds.specs.declared.event.Event.{Event}
-use Rattle.store.specs.Lists.{poolsOf, lists_of, recordWith}
+use Rattle.store.specs.Lists.{pools_of, lists_of, record_with}
 use Rattle.log.specs.Log.{events}
-use Rattle.reader.specs.Reading.{partsS}
+use Rattle.reader.specs.Reading.{parts_s}
 use Rattle.walks.specs.declared.walk.Walk.{Walk}
-use Rattle.reader.specs.Lone.{lone-bounds, lone-fits, part-lone}
+use Rattle.reader.specs.Lone.{lone_bounds, lone_fits, part_lone}
 use Rattle.walks.specs.Walks.{Typed}
-use Rattle.reader.specs.Roles.{partS, walkS}
-use Rattle.walks.specs.WalkLaws.{in-typed}
-use Rattle.reader.specs.RoleLaws.{part-deep, part-bad, part-good, good-record, good-lists, bad-record, walk-own, walk-parts, walk_refused, span-absent, span-there, parts-step, parts-over}
+use Rattle.reader.specs.Roles.{part_s, walk_s}
+use Rattle.walks.specs.WalkLaws.{in_typed}
+use Rattle.reader.specs.RoleLaws.{part_deep, part_bad, part_good, good_record, good_lists, bad_record, walk-own, walk-parts, walk_refused, span_absent, span_there, parts-step, parts-over}
 use Prim.Native.Nat.{ℕ, ◌<◌}
 use borrow.Fn.Kinds.{In}
 use borrow.Fn.PlainCycle.{Measures, is, falls, and}
@@ -51,63 +51,63 @@ abbrev μ-read-geometrycollection : Measures 8 read-geometrycollection-kinds.ps 
 abbrev μ-read-part : Measures 8 read-part-kinds.ps ℕ
 μ-read-part κs a = 4 * a.1.1.1.1.1.1.1.1.1.1.1.1.1.1.0
 
-abbrev read-geometry-n-at : ℕ → In 8 read-geometry-n-kinds.ps
-read-geometry-n-at t =
+abbrev read_geometry_n_at : ℕ → In 8 read-geometry-n-kinds.ps
+read_geometry_n_at t =
     and
     8
     read-geometry-n-kinds.ps
     (is 8 read-geometry-n-kinds.ps μ-read-geometry-n t)
     read-geometry-n.Pre
 
-abbrev read-geometry-n-below : ℕ → In 8 read-geometry-n-kinds.ps
-read-geometry-n-below t =
+abbrev read_geometry_n_below : ℕ → In 8 read-geometry-n-kinds.ps
+read_geometry_n_below t =
     and
     8
     read-geometry-n-kinds.ps
     (falls 8 read-geometry-n-kinds.ps ◌<◌ μ-read-geometry-n t)
     read-geometry-n.Pre
 
-abbrev read-geometrycollection-at : ℕ → In 8 read-geometrycollection-kinds.ps
-read-geometrycollection-at t =
+abbrev read_geometrycollection_at : ℕ → In 8 read-geometrycollection-kinds.ps
+read_geometrycollection_at t =
     and
     8
     read-geometrycollection-kinds.ps
     (is 8 read-geometrycollection-kinds.ps μ-read-geometrycollection t)
     read-geometrycollection.Pre
 
-abbrev read-geometrycollection-below : ℕ → In 8 read-geometrycollection-kinds.ps
-read-geometrycollection-below t =
+abbrev read_geometrycollection_below : ℕ → In 8 read-geometrycollection-kinds.ps
+read_geometrycollection_below t =
     and
     8
     read-geometrycollection-kinds.ps
     (falls 8 read-geometrycollection-kinds.ps ◌<◌ μ-read-geometrycollection t)
     read-geometrycollection.Pre
 
-abbrev read-part-at : ℕ → In 8 read-part-kinds.ps
-read-part-at t = and 8 read-part-kinds.ps (is 8 read-part-kinds.ps μ-read-part t) read-part.Pre
+abbrev read_part_at : ℕ → In 8 read-part-kinds.ps
+read_part_at t = and 8 read-part-kinds.ps (is 8 read-part-kinds.ps μ-read-part t) read-part.Pre
 
-abbrev read-part-below : ℕ → In 8 read-part-kinds.ps
-read-part-below t =
+abbrev read_part_below : ℕ → In 8 read-part-kinds.ps
+read_part_below t =
     and 8 read-part-kinds.ps (falls 8 read-part-kinds.ps ◌<◌ μ-read-part t) read-part.Pre
 
 abbrev read-geometrycollection-Inv-loop : read-geometrycollection-lts.invariant-loop
 read-geometrycollection-Inv-loop log₀ feature count table xy ends z m t tm flags kind role idx levels start size said₀ i₀ log said i =
     (i ≤ size) × (length log ≡ length log₀)
-    × (run (events feature) (partsS (partS flags role levels (recordWith table (poolsOf xy ends z m t tm))) size start 0 ⨟ one (endE kind false idx)) log₀ said₀ ≡ run (events feature) (partsS (partS flags role levels (recordWith table (poolsOf xy ends z m t tm))) (size - i) (start + i) i ⨟ one (endE kind false idx)) log said)
+    × (run (events feature) (parts_s (part_s flags role levels (record_with table (pools_of xy ends z m t tm))) size start 0 ⨟ one (end_e kind false idx)) log₀ said₀ ≡ run (events feature) (parts_s (part_s flags role levels (record_with table (pools_of xy ends z m t tm))) (size - i) (start + i) i ⨟ one (end_e kind false idx)) log said)
 
-abbrev read-geometrycollection-μ-loop : read-geometrycollection-lts.decreases-loop
-read-geometrycollection-μ-loop log₀ feature count table xy ends z m t tm flags kind role idx levels start size said₀ i₀ log said i =
+abbrev read_geometrycollection_μ_loop : read-geometrycollection-lts.decreases-loop
+read_geometrycollection_μ_loop log₀ feature count table xy ends z m t tm flags kind role idx levels start size said₀ i₀ log said i =
     size - i
 
-pub +read-geometry-n-read-geometrycollection-read-part-spec : {M : Type 1} → statement M
-+read-geometry-n-read-geometrycollection-read-part-spec =
+pub +read_geometry_n_read_geometrycollection_read_part_spec : {M : Type 1} → statement M
++read_geometry_n_read_geometrycollection_read_part_spec =
     close μ-read-geometry-n μ-read-geometrycollection μ-read-part (λ t. read-geometry-n-lts.spec (
       read-own-reads.Asked,
       read-own-reads.Learnt,
-      read-geometrycollection-below t,
+      read_geometrycollection_below t,
       read-geometrycollection.Post,
     )
-    (read-geometry-n-at t)
+    (read_geometry_n_at t)
     read-geometry-n.Post
     (λ c. search rules)
     (λ c κs. (c.before.before.before.before.before.before.before.before.before.before.before.before.requires.1.0, subst Typed c.before.before.walk.given.1 c.before.before.before.before.before.before.before.before.before.before.before.before.requires.1.1))
@@ -115,45 +115,45 @@ pub +read-geometry-n-read-geometrycollection-read-part-spec : {M : Type 1} → s
     (λ c κs. (omega (arith, c.before.before.before.before.before.before.before.before.before.before.before.before.requires.0), subst Typed c.before.before.walk2.given.1 c.before.before.before.before.before.before.before.before.before.before.before.before.requires.1.1))
     (λ c. search rules)
     (λ c. search rules)
-    (λ c. let a = c.before.before.before.before.before.before.before.before.before.before.before.before.before.before.before.args in rw (walk-own a.flags a.levels (recordWith a.table.now (poolsOf a.xy.now a.ends.now a.z.now a.m.now a.t.now a.tm.now)) (lists_of (poolsOf a.xy.now a.ends.now a.z.now a.m.now a.t.now a.tm.now) a.g) a.idx c.before.before.before.before.before.walk.given.1) c.before.before.read-own.ensures)
+    (λ c. let a = c.before.before.before.before.before.before.before.before.before.before.before.before.before.before.before.args in rw (walk-own a.flags a.levels (record_with a.table.now (pools_of a.xy.now a.ends.now a.z.now a.m.now a.t.now a.tm.now)) (lists_of (pools_of a.xy.now a.ends.now a.z.now a.m.now a.t.now a.tm.now) a.g) a.idx c.before.before.before.before.before.walk.given.1) c.before.before.read-own.ensures)
     (λ c. search rules)
-    (λ c. let a = c.before.before.before.before.before.before.before.before.before.before.before.before.before.before.before.args in rw (walk-parts a.flags a.levels (recordWith a.table.now (poolsOf a.xy.now a.ends.now a.z.now a.m.now a.t.now a.tm.now)) (lists_of (poolsOf a.xy.now a.ends.now a.z.now a.m.now a.t.now a.tm.now) a.g) a.idx c.before.before.before.before.before.walk2.given.1) c.before.before.read-geometrycollection.ensures)
-    (λ c. let a = c.before.before.before.before.before.before.before.before.before.before.before.args in ended (events a.feature) _ _ _ refl (walk_refused a.flags a.levels (recordWith a.table.now (poolsOf a.xy.now a.ends.now a.z.now a.m.now a.t.now a.tm.now)) (lists_of (poolsOf a.xy.now a.ends.now a.z.now a.m.now a.t.now a.tm.now) a.g) a.idx c.before.walk3.given.1)))
+    (λ c. let a = c.before.before.before.before.before.before.before.before.before.before.before.before.before.before.before.args in rw (walk-parts a.flags a.levels (record_with a.table.now (pools_of a.xy.now a.ends.now a.z.now a.m.now a.t.now a.tm.now)) (lists_of (pools_of a.xy.now a.ends.now a.z.now a.m.now a.t.now a.tm.now) a.g) a.idx c.before.before.before.before.before.walk2.given.1) c.before.before.read-geometrycollection.ensures)
+    (λ c. let a = c.before.before.before.before.before.before.before.before.before.before.before.args in ended (events a.feature) _ _ _ refl (walk_refused a.flags a.levels (record_with a.table.now (pools_of a.xy.now a.ends.now a.z.now a.m.now a.t.now a.tm.now)) (lists_of (pools_of a.xy.now a.ends.now a.z.now a.m.now a.t.now a.tm.now) a.g) a.idx c.before.walk3.given.1)))
     (λ t. read-geometrycollection-lts.spec (
       begin-reads.Asked,
       begin-reads.Learnt,
       say-reads.Asked,
       say-reads.Learnt,
-      read-part-below t,
+      read_part_below t,
       read-part.Post,
       end_reads.Asked,
       end_reads.Learnt,
     )
-    (read-geometrycollection-at t)
+    (read_geometrycollection_at t)
     read-geometrycollection.Post
     read-geometrycollection-Inv-loop
-    read-geometrycollection-μ-loop
+    read_geometrycollection_μ_loop
     (λ c. search rules)
     (λ c. search rules)
-    (λ c. let a = c.before.before.before.before.before.before.before.before.before.before.args in ended (events a.feature) _ _ 2 refl (span-absent (partS a.flags a.role a.levels (recordWith a.table.now (poolsOf a.xy.now a.ends.now a.z.now a.m.now a.t.now a.tm.now))) a.kind a.idx c.enum_told.given.1))
+    (λ c. let a = c.before.before.before.before.before.before.before.before.before.before.args in ended (events a.feature) _ _ 2 refl (span_absent (part_s a.flags a.role a.levels (record_with a.table.now (pools_of a.xy.now a.ends.now a.z.now a.m.now a.t.now a.tm.now))) a.kind a.idx c.enum_told.given.1))
     (λ c κs. search rules)
     (λ c κs. search rules)
     (λ c. search rules)
-    (λ c. let a = c.before.before.before.before.before.before.before.before.before.before.before.before.before.before.before.before.before.before.args in rw (span-there (partS a.flags a.role a.levels (recordWith a.table.now (poolsOf a.xy.now a.ends.now a.z.now a.m.now a.t.now a.tm.now))) a.kind a.idx c.before.before.before.before.before.before.before.before.parts.given.1) (no-begin (events a.feature) _ _ _ _ c.before.before.before.before.before.begin.ensures c.before.before.before.before.say.ensures c.if1.true))
+    (λ c. let a = c.before.before.before.before.before.before.before.before.before.before.before.before.before.before.before.before.before.before.args in rw (span_there (part_s a.flags a.role a.levels (record_with a.table.now (pools_of a.xy.now a.ends.now a.z.now a.m.now a.t.now a.tm.now))) a.kind a.idx c.before.before.before.before.before.before.before.before.parts.given.1) (no_begin (events a.feature) _ _ _ _ c.before.before.before.before.before.begin.ensures c.before.before.before.before.say.ensures c.if1.true))
     (λ c. (search rules, refl, rw (sub-zero, add-zero)))
     (λ c. search rules)
     (λ c. search rules)
     (λ c. search rules)
     (λ c κs. search rules)
     (λ c. search rules)
-    (λ c. let a = c.before.before.before.before.before.before.before.before.before.before.before.before.before.before.before.before.before.before.before.before.before.before.before.before.before.before.args in let l = c.before.before.before.before.before.before.before.loop in rw (span-there (partS a.flags a.role a.levels (recordWith a.table.now (poolsOf a.xy.now a.ends.now a.z.now a.m.now a.t.now a.tm.now))) a.kind a.idx c.before.before.before.before.before.before.before.before.before.before.before.before.before.before.before.before.parts.given.1) (broke-off (events a.feature) _ _ _ _ {L' = c.before.before.before.before.read-part.new.0} (began (events a.feature) _ _ _ _ c.before.before.before.before.before.before.before.before.before.before.before.before.before.begin.ensures c.before.before.before.before.before.before.before.before.before.before.before.before.say.ensures c.before.before.before.before.before.before.before.before.if1.false ∙ l.invariant.2) (parts-step _ _ _ c.before.before.before.before.before.before.loop-test.true) c.before.before.before.before.read-part.ensures c.if2.true))
+    (λ c. let a = c.before.before.before.before.before.before.before.before.before.before.before.before.before.before.before.before.before.before.before.before.before.before.before.before.before.before.args in let l = c.before.before.before.before.before.before.before.loop in rw (span_there (part_s a.flags a.role a.levels (record_with a.table.now (pools_of a.xy.now a.ends.now a.z.now a.m.now a.t.now a.tm.now))) a.kind a.idx c.before.before.before.before.before.before.before.before.before.before.before.before.before.before.before.before.parts.given.1) (broke_off (events a.feature) _ _ _ _ {L' = c.before.before.before.before.read-part.new.0} (began (events a.feature) _ _ _ _ c.before.before.before.before.before.before.before.before.before.before.before.before.before.begin.ensures c.before.before.before.before.before.before.before.before.before.before.before.before.say.ensures c.before.before.before.before.before.before.before.before.if1.false ∙ l.invariant.2) (parts-step _ _ _ c.before.before.before.before.before.before.loop-test.true) c.before.before.before.before.read-part.ensures c.if2.true))
     (λ c. omega (arith, c.before.before.before.before.before.before.before.before.before.before.before.before.before.before.before.known-told.given))
     (λ c. search rules)
     (λ c. let a = c.before.before.before.before.before.before.before.before.before.before.before.before.before.before.before.before.before.before.before.before.before.before.before.before.before.before.args in let l = c.before.before.before.before.before.before.before.loop in (search rules, search rules, went_on (events a.feature) _ _ _ _ {L' = c.before.before.before.before.read-part.new.0} l.invariant.2 (parts-step _ _ _ c.before.before.before.before.before.before.loop-test.true) c.before.before.before.before.read-part.ensures c.if2.false))
     (λ c κs. c.before.before.before.before.before.before.before.before.before.before.before.before.before.before.before.before.before.before.before.before.before.requires.1)
     (λ c κs. search rules)
     (λ c. search rules)
-    (λ c. let a = c.before.before.before.before.before.before.before.before.before.before.before.before.before.before.before.before.before.before.before.before.before.before.before.before.before.args in let l = c.before.before.before.before.before.before.loop in rw (span-there (partS a.flags a.role a.levels (recordWith a.table.now (poolsOf a.xy.now a.ends.now a.z.now a.m.now a.t.now a.tm.now))) a.kind a.idx c.before.before.before.before.before.before.before.before.before.before.before.before.before.before.before.parts.given.1) (began (events a.feature) _ _ _ _ c.before.before.before.before.before.before.before.before.before.before.before.before.begin.ensures c.before.before.before.before.before.before.before.before.before.before.before.say.ensures c.before.before.before.before.before.before.before.if1.false ∙ l.invariant.2 ∙ ap (λ (s : Script Event). run (events a.feature) s l.log l.said) (parts-over _ _ _ c.before.before.before.before.before.loop-test.false) ∙ (rw c.before.before.before.end.ensures at c.before.before.say2.ensures))))
+    (λ c. let a = c.before.before.before.before.before.before.before.before.before.before.before.before.before.before.before.before.before.before.before.before.before.before.before.before.before.args in let l = c.before.before.before.before.before.before.loop in rw (span_there (part_s a.flags a.role a.levels (record_with a.table.now (pools_of a.xy.now a.ends.now a.z.now a.m.now a.t.now a.tm.now))) a.kind a.idx c.before.before.before.before.before.before.before.before.before.before.before.before.before.before.before.parts.given.1) (began (events a.feature) _ _ _ _ c.before.before.before.before.before.before.before.before.before.before.before.before.begin.ensures c.before.before.before.before.before.before.before.before.before.before.before.say.ensures c.before.before.before.before.before.before.before.if1.false ∙ l.invariant.2 ∙ ap (λ (s : Script Event). run (events a.feature) s l.log l.said) (parts-over _ _ _ c.before.before.before.before.before.loop-test.false) ∙ (rw c.before.before.before.end.ensures at c.before.before.say2.ensures))))
     λ t. read-part-lts.spec (
       lone-part-reads.Asked,
       lone-part-reads.Learnt,
@@ -165,12 +165,12 @@ pub +read-geometry-n-read-geometrycollection-read-part-spec : {M : Type 1} → s
       record-at-reads.Learnt,
       walk-in-reads.Asked,
       walk-in-reads.Learnt,
-      read-geometry-n-below t,
+      read_geometry_n_below t,
       read-geometry-n.Post,
     )
-    (read-part-at t)
+    (read_part_at t)
     read-part.Post
-    (λ c. let a = c.before.before.before.before.before.before.before.before.before.args in ended (events a.feature) _ _ 13 refl (part-deep a.flags a.role a.levels (recordWith a.table.now (poolsOf a.xy.now a.ends.now a.z.now a.m.now a.t.now a.tm.now)) a.n a.idx c.if1.true))
+    (λ c. let a = c.before.before.before.before.before.before.before.before.before.args in ended (events a.feature) _ _ 13 refl (part_deep a.flags a.role a.levels (record_with a.table.now (pools_of a.xy.now a.ends.now a.z.now a.m.now a.t.now a.tm.now)) a.n a.idx c.if1.true))
     (λ c κs. search rules)
     (λ c. search rules)
     (λ c. search rules)
@@ -179,18 +179,18 @@ pub +read-geometry-n-read-geometrycollection-read-part-spec : {M : Type 1} → s
     (λ c. search rules)
     (λ c. search rules)
     (λ c. search rules)
-    (λ c. let a = c.before.before.before.before.before.before.before.before.before.before.before.before.before.before.args in omega (arith, (lone-bounds a.flags a.role a.table.now (poolsOf a.xy.now a.ends.now a.z.now a.m.now a.t.now a.tm.now) a.n c.before.before.before.before.lone-part.ensures c.before.before.start.given.1).0))
-    (λ c κs. let a = c.before.before.before.before.before.before.before.before.before.before.before.before.before.before.before.args in lone-fits a.flags a.role a.table.now (poolsOf a.xy.now a.ends.now a.z.now a.m.now a.t.now a.tm.now) a.n c.before.before.before.before.before.lone-part.ensures c.before.before.before.start.given.1)
+    (λ c. let a = c.before.before.before.before.before.before.before.before.before.before.before.before.before.before.args in omega (arith, (lone_bounds a.flags a.role a.table.now (pools_of a.xy.now a.ends.now a.z.now a.m.now a.t.now a.tm.now) a.n c.before.before.before.before.lone-part.ensures c.before.before.start.given.1).0))
+    (λ c κs. let a = c.before.before.before.before.before.before.before.before.before.before.before.before.before.before.before.args in lone_fits a.flags a.role a.table.now (pools_of a.xy.now a.ends.now a.z.now a.m.now a.t.now a.tm.now) a.n c.before.before.before.before.before.lone-part.ensures c.before.before.before.start.given.1)
     (λ c. search rules)
-    (λ c. let a = c.before.before.before.before.before.before.before.before.before.before.before.before.before.before.before.before.before.before.args in rw (part-lone a.flags a.role a.table.now (poolsOf a.xy.now a.ends.now a.z.now a.m.now a.t.now a.tm.now) a.n c.before.before.before.before.before.before.before.before.lone-part.ensures c.before.before.before.before.before.before.start.given.1 a.levels a.idx c.before.before.before.before.before.before.before.before.before.if1.false) c.before.before.read-lone-ring.ensures)
+    (λ c. let a = c.before.before.before.before.before.before.before.before.before.before.before.before.before.before.before.before.before.before.args in rw (part_lone a.flags a.role a.table.now (pools_of a.xy.now a.ends.now a.z.now a.m.now a.t.now a.tm.now) a.n c.before.before.before.before.before.before.before.before.lone-part.ensures c.before.before.before.before.before.before.start.given.1 a.levels a.idx c.before.before.before.before.before.before.before.before.before.if1.false) c.before.before.read-lone-ring.ensures)
     (λ c. search rules)
     (λ c κs. search rules)
     (λ c κs. search rules)
     (λ c. search rules)
     (λ c κs. search rules)
     (λ c. omega (arith, pos_of_ne-zero c.before.before.before.before.before.before.before.before.before.before.if1.false))
-    (λ c κs. let a = c.before.before.before.before.before.before.before.before.before.before.before.before.before.before.before.before.before.before.before.args in (omega (arith, pos_of_ne-zero c.before.before.before.before.before.before.before.before.before.before.if1.false, c.before.before.before.before.before.before.before.before.before.before.before.before.before.before.before.before.before.before.before.requires.0), (good-lists a.table.now (poolsOf a.xy.now a.ends.now a.z.now a.m.now a.t.now a.tm.now) a.n c.before.before.before.before.before.before.new.ensures c.before.before.before.before.before.record-at.ensures c.before.before.before.g.given.1, rw c.before.walk-in.ensures (in-typed a.role _))))
+    (λ c κs. let a = c.before.before.before.before.before.before.before.before.before.before.before.before.before.before.before.before.before.before.before.args in (omega (arith, pos_of_ne-zero c.before.before.before.before.before.before.before.before.before.before.if1.false, c.before.before.before.before.before.before.before.before.before.before.before.before.before.before.before.before.before.before.before.requires.0), (good_lists a.table.now (pools_of a.xy.now a.ends.now a.z.now a.m.now a.t.now a.tm.now) a.n c.before.before.before.before.before.before.new.ensures c.before.before.before.before.before.record-at.ensures c.before.before.before.g.given.1, rw c.before.walk-in.ensures (in_typed a.role _))))
     (λ c. search rules)
     (λ c. search rules)
-    (λ c. let a = c.before.before.before.before.before.before.before.before.before.before.before.before.before.before.before.before.before.before.before.before.before.before.args in rw (part-good a.flags a.role a.levels (recordWith a.table.now (poolsOf a.xy.now a.ends.now a.z.now a.m.now a.t.now a.tm.now)) a.n a.idx c.before.before.before.before.before.before.before.before.before.before.before.before.before.if1.false (lists_of (poolsOf a.xy.now a.ends.now a.z.now a.m.now a.t.now a.tm.now) c.before.before.before.before.before.before.g.given.0.0) (good-record a.table.now (poolsOf a.xy.now a.ends.now a.z.now a.m.now a.t.now a.tm.now) a.n c.before.before.before.before.before.before.before.before.before.new.ensures c.before.before.before.before.before.before.before.before.record-at.ensures c.before.before.before.before.before.before.g.given.1) ∙ ap (λ (w : Walk). walkS a.flags (a.levels - 1) (recordWith a.table.now (poolsOf a.xy.now a.ends.now a.z.now a.m.now a.t.now a.tm.now)) (lists_of (poolsOf a.xy.now a.ends.now a.z.now a.m.now a.t.now a.tm.now) c.before.before.before.before.before.before.g.given.0.0) w a.idx) (sym c.before.before.before.before.walk-in.ensures)) c.before.before.read-geometry-n.ensures)
-    (λ c. let a = c.before.before.before.before.before.before.before.before.before.before.before.before.before.before.before.before.args in ended (events a.feature) _ _ 10 refl (part-bad a.flags a.role a.levels (recordWith a.table.now (poolsOf a.xy.now a.ends.now a.z.now a.m.now a.t.now a.tm.now)) a.n a.idx c.before.before.before.before.before.before.before.if1.false (bad-record a.table.now (poolsOf a.xy.now a.ends.now a.z.now a.m.now a.t.now a.tm.now) a.n c.before.before.before.new.ensures c.before.before.record-at.ensures c.enum-told2.given.1)))
+    (λ c. let a = c.before.before.before.before.before.before.before.before.before.before.before.before.before.before.before.before.before.before.before.before.before.before.args in rw (part_good a.flags a.role a.levels (record_with a.table.now (pools_of a.xy.now a.ends.now a.z.now a.m.now a.t.now a.tm.now)) a.n a.idx c.before.before.before.before.before.before.before.before.before.before.before.before.before.if1.false (lists_of (pools_of a.xy.now a.ends.now a.z.now a.m.now a.t.now a.tm.now) c.before.before.before.before.before.before.g.given.0.0) (good_record a.table.now (pools_of a.xy.now a.ends.now a.z.now a.m.now a.t.now a.tm.now) a.n c.before.before.before.before.before.before.before.before.before.new.ensures c.before.before.before.before.before.before.before.before.record-at.ensures c.before.before.before.before.before.before.g.given.1) ∙ ap (λ (w : Walk). walk_s a.flags (a.levels - 1) (record_with a.table.now (pools_of a.xy.now a.ends.now a.z.now a.m.now a.t.now a.tm.now)) (lists_of (pools_of a.xy.now a.ends.now a.z.now a.m.now a.t.now a.tm.now) c.before.before.before.before.before.before.g.given.0.0) w a.idx) (sym c.before.before.before.before.walk-in.ensures)) c.before.before.read-geometry-n.ensures)
+    (λ c. let a = c.before.before.before.before.before.before.before.before.before.before.before.before.before.before.before.before.args in ended (events a.feature) _ _ 10 refl (part_bad a.flags a.role a.levels (record_with a.table.now (pools_of a.xy.now a.ends.now a.z.now a.m.now a.t.now a.tm.now)) a.n a.idx c.before.before.before.before.before.before.before.if1.false (bad_record a.table.now (pools_of a.xy.now a.ends.now a.z.now a.m.now a.t.now a.tm.now) a.n c.before.before.before.new.ensures c.before.before.record-at.ensures c.enum-told2.given.1)))

@@ -2,8 +2,8 @@ use borrow.Author.Rules.{rules}
 use Rattle.tree_walk.proofs.parts_of.Statement.{statement}
 use Rattle.tree_walk.proofs.parts_of.Tie as tie
 
-pub parts-of-spec : {M : Type 1} → statement M
-parts-of-spec =
+pub parts_of_spec : {M : Type 1} → statement M
+parts_of_spec =
     tie.close
     (tie.spec
     (λ c. search rules)

@@ -1,27 +1,27 @@
-use Rattle.laws.specs.Framed.{no-begin, no_body, to_end}
+use Rattle.laws.specs.Framed.{no_begin, no_body, to_end}
 use Rattle.log.specs.Log.{events}
 use mathlib.Core.Path.{ap, ◌∙◌}
 use Prim.Native.Nat.{ℕ}
 use mathlib.Core.Bool.{false}
-use Rattle.kinds.specs.Event.{beginE}
-use Rattle.lines.specs.Lines.{tinS}
+use Rattle.kinds.specs.Event.{begin_e}
+use Rattle.lines.specs.Lines.{tin_s}
 use borrow.Author.Rules.{rules}
 use Rattle.triangles.proofs.read_tin.Statement.{statement}
 use Rattle.triangles.proofs.read_tin.Tie as tie
 
-pub read-tin-spec : {M : Type 1} → statement M
-read-tin-spec =
+pub read_tin_spec : {M : Type 1} → statement M
+read_tin_spec =
     tie.close
     (tie.spec
     (λ c κs. search rules)
     (λ c κs. search rules)
     (λ c κs. search rules)
     (λ c. search rules)
-    (λ c. unfold tinS in let a = c.before.before.before.before.before.before.before.before.before.before.before.before.before.before.before.args in no-begin (events a.feature) _ _ _ _ (c.before.before.before.before.before.begin.ensures ∙ ap (λ (k : ℕ). beginE 16 false k a.idx) c.before.before.before.before.before.before.before.stretches.ensures) c.before.before.before.before.say.ensures c.if1.true)
+    (λ c. unfold tin_s in let a = c.before.before.before.before.before.before.before.before.before.before.before.before.before.before.before.args in no_begin (events a.feature) _ _ _ _ (c.before.before.before.before.before.begin.ensures ∙ ap (λ (k : ℕ). begin_e 16 false k a.idx) c.before.before.before.before.before.before.before.stretches.ensures) c.before.before.before.before.say.ensures c.if1.true)
     (λ c κs. search rules)
     (λ c. search rules)
-    (λ c. unfold tinS in let a = c.before.before.before.before.before.before.before.before.before.before.before.before.before.before.before.before.before.before.before.before.before.args in no_body (events a.feature) _ _ _ _ (c.before.before.before.before.before.before.before.before.before.before.before.begin.ensures ∙ ap (λ (k : ℕ). beginE 16 false k a.idx) c.before.before.before.before.before.before.before.before.before.before.before.before.before.stretches.ensures) c.before.before.before.before.before.before.before.before.before.before.say.ensures c.before.before.before.before.before.before.if1.false c.before.before.before.before.read-triangle.ensures c.if2.true)
+    (λ c. unfold tin_s in let a = c.before.before.before.before.before.before.before.before.before.before.before.before.before.before.before.before.before.before.before.before.before.args in no_body (events a.feature) _ _ _ _ (c.before.before.before.before.before.before.before.before.before.before.before.begin.ensures ∙ ap (λ (k : ℕ). begin_e 16 false k a.idx) c.before.before.before.before.before.before.before.before.before.before.before.before.before.stretches.ensures) c.before.before.before.before.before.before.before.before.before.before.say.ensures c.before.before.before.before.before.before.if1.false c.before.before.before.before.read-triangle.ensures c.if2.true)
     (λ c κs. search rules)
     (λ c κs. search rules)
     (λ c. search rules)
-    (λ c. unfold tinS in let a = c.before.before.before.before.before.before.before.before.before.before.before.before.before.before.before.before.before.before.before.before.before.before.before.before.before.before.args in to_end (events a.feature) _ _ _ _ (c.before.before.before.before.before.before.before.before.before.before.before.before.before.before.before.before.begin.ensures ∙ ap (λ (k : ℕ). beginE 16 false k a.idx) c.before.before.before.before.before.before.before.before.before.before.before.before.before.before.before.before.before.before.stretches.ensures) c.before.before.before.before.before.before.before.before.before.before.before.before.before.before.before.say.ensures c.before.before.before.before.before.before.before.before.before.before.before.if1.false c.before.before.before.before.before.before.before.before.before.read-triangle.ensures c.before.before.before.before.before.if2.false c.before.before.before.end.ensures c.before.before.say2.ensures))
+    (λ c. unfold tin_s in let a = c.before.before.before.before.before.before.before.before.before.before.before.before.before.before.before.before.before.before.before.before.before.before.before.before.before.before.args in to_end (events a.feature) _ _ _ _ (c.before.before.before.before.before.before.before.before.before.before.before.before.before.before.before.before.begin.ensures ∙ ap (λ (k : ℕ). begin_e 16 false k a.idx) c.before.before.before.before.before.before.before.before.before.before.before.before.before.before.before.before.before.before.stretches.ensures) c.before.before.before.before.before.before.before.before.before.before.before.before.before.before.before.say.ensures c.before.before.before.before.before.before.before.before.before.before.before.if1.false c.before.before.before.before.before.before.before.before.before.read-triangle.ensures c.before.before.before.before.before.if2.false c.before.before.before.end.ensures c.before.before.say2.ensures))

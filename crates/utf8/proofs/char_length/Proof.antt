@@ -3,12 +3,12 @@ use native.Mathlib.Omega.{arith}
 use lib.ListN.{get_or}
 use borrow.Author.Rules.{rules}
 use borrow.Author.Tests.{not-true, not-false}
-use Rattle.utf8.specs.Laws.{length_most, char-brief, char-cut, char-long}
+use Rattle.utf8.specs.Laws.{length_most, char_brief, char_cut, char_long}
 use Rattle.utf8.proofs.char_length.Statement.{statement}
 use Rattle.utf8.proofs.char_length.Tie as tie
 
-pub char-length-spec : {M : Type 1} → statement M
-char-length-spec =
+pub char_length_spec : {M : Type 1} → statement M
+char_length_spec =
     tie.close
     (tie.spec
     (λ c. search rules)
@@ -16,12 +16,12 @@ char-length-spec =
     (λ c.
     let start = c.before.before.before.before.args in
     let row = c.before.row-length in
-    sym (char-brief start.bytes.now start.at row.result (omega arith) row.ensures (omega arith)))
+    sym (char_brief start.bytes.now start.at row.result (omega arith) row.ensures (omega arith)))
     (λ c. search rules)
     (λ c.
     let start = c.before.before.before.before.before.args in
     let row = c.before.before.row-length in
-    sym (char-cut start.bytes.now start.at row.result (omega arith) row.ensures (omega arith)))
+    sym (char_cut start.bytes.now start.at row.result (omega arith) row.ensures (omega arith)))
     (λ c. search rules)
     (λ c. search rules)
     (λ c κs. search rules)
@@ -30,7 +30,7 @@ char-length-spec =
     let row = c.before.before.before.before.before.row-length in
     let next = c.before.second-fits in
     rw (
-      char-long start.bytes.now start.at row.result (omega arith) row.ensures (omega arith) (omega arith),
+      char_long start.bytes.now start.at row.result (omega arith) row.ensures (omega arith) (omega arith),
       ← next.ensures,
       not-true next.result c.if3.true,
     ))
@@ -45,7 +45,7 @@ char-length-spec =
     let next = c.before.before.before.second-fits in
     let ends = c.before.tails-fit in
     rw (
-      char-long start.bytes.now start.at row.result (omega arith) row.ensures (omega arith) (omega arith),
+      char_long start.bytes.now start.at row.result (omega arith) row.ensures (omega arith) (omega arith),
       ← next.ensures,
       not-false next.result c.before.before.if3.false,
       ← ends.ensures,
@@ -57,7 +57,7 @@ char-length-spec =
     let next = c.before.before.before.second-fits in
     let ends = c.before.tails-fit in
     rw (
-      char-long start.bytes.now start.at row.result (omega arith) row.ensures (omega arith) (omega arith),
+      char_long start.bytes.now start.at row.result (omega arith) row.ensures (omega arith) (omega arith),
       ← next.ensures,
       not-false next.result c.before.before.if3.false,
       ← ends.ensures,

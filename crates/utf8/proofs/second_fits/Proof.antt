@@ -5,8 +5,8 @@ use Rattle.utf8.specs.Laws.{second-wide}
 use Rattle.utf8.proofs.second_fits.Statement.{statement}
 use Rattle.utf8.proofs.second_fits.Tie as tie
 
-pub second-fits-spec : {M : Type 1} → statement M
-second-fits-spec =
+pub second_fits_spec : {M : Type 1} → statement M
+second_fits_spec =
     tie.close
     (tie.spec
     (λ c κs. search rules)

@@ -1,5 +1,5 @@
 use mathlib.Core.Path.{◌≡◌}
-use mathlib.Core.Bool.{and-true}
+use mathlib.Core.Bool.{and_true}
 use Prim.Native.Nat.{◌+◌}
 use native.Mathlib.Omega.{arith}
 use borrow.Author.Rules.{rules}
@@ -9,8 +9,8 @@ use Rattle.utf8.specs.Laws.{tails-first}
 use Rattle.utf8.proofs.tails_fit.Statement.{statement}
 use Rattle.utf8.proofs.tails_fit.Tie as tie
 
-pub tails-fit-spec : {M : Type 1} → statement M
-tails-fit-spec =
+pub tails_fit_spec : {M : Type 1} → statement M
+tails_fit_spec =
     tie.close
     (tie.spec
     (λ c. unfold begins in rw c.if1.true)
@@ -47,5 +47,5 @@ tails-fit-spec =
       two,
       tails-first 1 start.bytes.now (start.from + 1) (omega arith) (omega arith),
       ← c.is-tail2.ensures,
-      and-true,
+      and_true,
     )))

@@ -1,6 +1,6 @@
 use native.Mathlib.Omega.{arith}
 use borrow.Author.Rules.{rules}
-use Rattle.writing.specs.Ends.{finish-room, finish-taken, finish-refused}
+use Rattle.writing.specs.Ends.{finish-room, finish-taken, finish_refused}
 use Rattle.writing.specs.State.{Mem, mem_of}
 use Rattle.writer.proofs.finish.Statement.{statement}
 use Rattle.writer.proofs.finish.Tie as tie
@@ -20,4 +20,4 @@ finish_spec =
     (λ c. search rules)
     (λ c. finish-taken _ (memory c.before.before.before.before.before.before.before.before.before.before.before.before.before.before.before.before.before) c.before.before.before.before.before.before.before.records-lent.ensures c.before.before.before.before.before.before.before.before.before.new.ensures c.before.before.before.before.before.before.decide-finish.ensures c.before.before.before.before.if1.true c.before.before.put-root.ensures)
     (λ c. search rules)
-    (λ c. finish-refused _ (memory c.before.before.before.before.before.before.before.before.before.before.before.before.before) c.before.before.before.records-lent.ensures c.before.before.before.before.before.new.ensures c.before.before.decide-finish.ensures c.if1.false))
+    (λ c. finish_refused _ (memory c.before.before.before.before.before.before.before.before.before.before.before.before.before) c.before.before.before.records-lent.ensures c.before.before.before.before.before.new.ensures c.before.before.decide-finish.ensures c.if1.false))

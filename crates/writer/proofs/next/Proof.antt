@@ -2,10 +2,10 @@ use Prim.Native.Nat.{◌+◌}
 use native.Mathlib.Omega.{arith}
 use borrow.Author.Rules.{rules}
 use Rattle.kinds.specs.Lanes.{xyL, endsL, zL, mL, tL, tmL}
-use Rattle.store.specs.Records.{recordsLent}
+use Rattle.store.specs.Records.{records_lent}
 use Rattle.store.specs.Lists.{lent_of}
-use Rattle.asking.specs.Ask.{noWords}
-use Rattle.writing.specs.Ends.{next-room, next-taken, next-refused}
+use Rattle.asking.specs.Ask.{no_words}
+use Rattle.writing.specs.Ends.{next-room, next-taken, next_refused}
 use Rattle.pending.specs.Room.{Room}
 use Rattle.writing.specs.State.{Mem, mem_of}
 use Rattle.writer.proofs.next.Statement.{statement}
@@ -19,14 +19,14 @@ abbrev entry : tie.Then1 → tie.Start
 entry c = c.before.before.before.before.before.before.before.before.before.before.before.before
 
 -- an accepted next had room
-room : (c : tie.Then1) → (let s = (entry c).args.s in Room s.pending noWords (s.parts + 1) (recordsLent (memory (entry c)).table) (lent_of (memory (entry c)).pools))
+room : (c : tie.Then1) → (let s = (entry c).args.s in Room s.pending no_words (s.parts + 1) (records_lent (memory (entry c)).table) (lent_of (memory (entry c)).pools))
 room c =
     let decided = c.before.before in
     let measured = decided.before in
     next-room _ (memory (entry c)) measured.records-lent.ensures measured.before.new.ensures decided.decide-next.ensures c.if1.true
 
-pub next-spec : {M : Type 1} → statement M
-next-spec =
+pub next_spec : {M : Type 1} → statement M
+next_spec =
     tie.close
     (tie.spec
     (λ c κs. search rules)
@@ -58,4 +58,4 @@ next-spec =
     (λ c. let decided = c.before.before in
     let measured = decided.before in
     let start = measured.before.before.before.before.before.before.before.before.before in
-    next-refused _ (memory start) measured.records-lent.ensures measured.before.new.ensures decided.decide-next.ensures c.if1.false))
+    next_refused _ (memory start) measured.records-lent.ensures measured.before.new.ensures decided.decide-next.ensures c.if1.false))

@@ -1,6 +1,6 @@
 use mathlib.Core.Path.{sym, ◌∙◌}
 use borrow.Author.Rules.{rules}
-use Rattle.writing.specs.Calls.{isReady}
+use Rattle.writing.specs.Calls.{is_ready}
 use Rattle.runs.specs.Run.{pair-alone}
 use Rattle.writer.proofs.pair.Statement.{statement}
 use Rattle.writer.proofs.pair.Tie as tie
@@ -17,5 +17,5 @@ pair_spec =
     (λ c bytes number heard.
     let a = c.before.before.before.before.before.before.before.before.before.before.before.before.before.before.args in
     pair-alone a.s a.table.now a.xy.now a.ends.now a.z.now a.m.now a.t.now a.tm.now bytes number heard
-    (sym (c.before.before.before.before.is-ready.ensures ∙ (λ i. isReady a.s (c.before.before.before.before.before.records-lent.ensures i) (c.before.before.before.before.before.before.new.ensures i))))
+    (sym (c.before.before.before.before.is-ready.ensures ∙ (λ i. is_ready a.s (c.before.before.before.before.before.records-lent.ensures i) (c.before.before.before.before.before.before.new.ensures i))))
     c.before.before.take-alone.ensures.0 c.before.before.take-alone.ensures.1))

@@ -3,8 +3,8 @@ use borrow.Author.Rules.{rules}
 use Rattle.as_words.proofs.state.feature_of.Statement.{statement}
 use Rattle.as_words.proofs.state.feature_of.Tie as tie
 
-pub feature-of-spec : {M : Type 1} → statement M
-feature-of-spec =
+pub feature_of_spec : {M : Type 1} → statement M
+feature_of_spec =
     tie.close
     (tie.spec
     (λ c. search rules)

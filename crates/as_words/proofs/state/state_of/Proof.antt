@@ -3,8 +3,8 @@ use borrow.Author.Rules.{rules}
 use Rattle.as_words.proofs.state.state_of.Statement.{statement}
 use Rattle.as_words.proofs.state.state_of.Tie as tie
 
-pub state-of-spec : {M : Type 1} → statement M
-state-of-spec =
+pub state_of_spec : {M : Type 1} → statement M
+state_of_spec =
     tie.close
     (tie.spec
     (λ c. search rules)

@@ -3,8 +3,8 @@ use borrow.Author.Rules.{rules}
 use Rattle.asking.proofs.ask.pair_with.Statement.{statement}
 use Rattle.asking.proofs.ask.pair_with.Tie as tie
 
-pub pair-with-spec : {M : Type 1} → statement M
-pair-with-spec =
+pub pair_with_spec : {M : Type 1} → statement M
+pair_with_spec =
     tie.close
     (tie.spec
     (λ c κs. search rules)

@@ -4,5 +4,5 @@ use Rattle.asking.specs.SetType.{collected as spec-collected}
 use Rattle.asking.proofs.set_type.collected.Statement.{statement}
 use Rattle.asking.proofs.set_type.collected.Tie as tie
 
-pub collected-spec : {M : Type 1} → statement M
-collected-spec = tie.close (tie.spec (λ c κs. search rules) (λ c. unfold spec-collected in simp (eq-eqb _ _ c.before.if1.true) c.with-current.ensures) (λ c. unfold spec-collected in simp (ne_eqb _ _ c.if1.false)))
+pub collected_spec : {M : Type 1} → statement M
+collected_spec = tie.close (tie.spec (λ c κs. search rules) (λ c. unfold spec-collected in simp (eq-eqb _ _ c.before.if1.true) c.with-current.ensures) (λ c. unfold spec-collected in simp (ne_eqb _ _ c.if1.false)))

@@ -4,8 +4,8 @@ use Rattle.bbox.specs.Box.{beginning}
 use Rattle.bbox.proofs.Box.empty.Statement.{statement}
 use Rattle.bbox.proofs.Box.empty.Tie as tie
 
-pub empty-spec : {M : Type 1} → statement M
-empty-spec =
+pub empty_spec : {M : Type 1} → statement M
+empty_spec =
     tie.close
     (tie.spec
     (λ c. unfold nan_bits in tt)

@@ -3,8 +3,8 @@ use Rattle.bbox.specs.Box.{widen}
 use Rattle.bbox.proofs.Box.widened.Statement.{statement}
 use Rattle.bbox.proofs.Box.widened.Tie as tie
 
-pub widened-spec : {M : Type 1} → statement M
-widened-spec =
+pub widened_spec : {M : Type 1} → statement M
+widened_spec =
     tie.close
     (tie.spec
     (λ c κs. search rules)

@@ -3,20 +3,20 @@ use Prim.Native.Nat.{◌≤◌, ◌-◌}
 use native.Mathlib.Omega.{arith}
 use lib.ListN.{length, drop}
 use borrow.Author.Rules.{rules}
-use Rattle.bbox.specs.Box.{boxFrom}
+use Rattle.bbox.specs.Box.{box_from}
 use Rattle.bbox.specs.Pairs.{pair-taken, pairs-done}
 use Rattle.bbox.proofs.Box.widened_by.Statement.{statement}
 use Rattle.bbox.proofs.Box.widened_by.Tie as tie
 
 -- the pairs that are left widen the box so far to what the whole list makes of the first
 abbrev invariant-loop : tie.invariant-loop
-invariant-loop words around₀ i₀ around i = (i ≤ length words) × (boxFrom around (drop i words) ≡ boxFrom around₀ words)
+invariant-loop words around₀ i₀ around i = (i ≤ length words) × (box_from around (drop i words) ≡ box_from around₀ words)
 
 abbrev decreases-loop : tie.decreases-loop
 decreases-loop words around₀ i₀ around i = length words - i
 
-pub widened-by-spec : {M : Type 1} → statement M
-widened-by-spec =
+pub widened_by_spec : {M : Type 1} → statement M
+widened_by_spec =
     tie.close
     (tie.spec
     invariant-loop

@@ -1,14 +1,14 @@
-use Rattle.bbox.specs.Edges.{edgesOf}
+use Rattle.bbox.specs.Edges.{edges_of}
 use borrow.Author.Rules.{rules}
 use Rattle.bbox.proofs.edges.edges_of.Statement.{statement}
 use Rattle.bbox.proofs.edges.edges_of.Tie as tie
 
-pub edges-of-spec : {M : Type 1} → statement M
-edges-of-spec =
+pub edges_of_spec : {M : Type 1} → statement M
+edges_of_spec =
     tie.close
     (tie.spec
     (λ c κs. search rules)
     (λ c κs. search rules)
     (λ c κs. search rules)
     (λ c κs. search rules)
-    (λ c. unfold edgesOf in cc))
+    (λ c. unfold edges_of in cc))

@@ -8,8 +8,8 @@ invariant-loop log count spot₀ i₀ spot i = i ≤ count
 abbrev decreases-loop : tie.decreases-loop
 decreases-loop log count spot₀ i₀ spot i = count - i
 
-pub show-map-spec : {M : Type 1} → statement M
-show-map-spec =
+pub show_map_spec : {M : Type 1} → statement M
+show_map_spec =
     tie.close
     (tie.spec
     invariant-loop

@@ -8,8 +8,8 @@ invariant-loop depth left₀ t3 left = left ≤ depth
 abbrev decreases-loop : tie.decreases-loop
 decreases-loop depth left₀ t3 left = left
 
-pub indent-spec : {M : Type 1} → statement M
-indent-spec =
+pub indent_spec : {M : Type 1} → statement M
+indent_spec =
     tie.close
     (tie.spec
     invariant-loop

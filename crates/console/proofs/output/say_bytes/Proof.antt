@@ -8,8 +8,8 @@ invariant-loop bytes i₀ i = i ≤ length bytes
 abbrev decreases-loop : tie.decreases-loop
 decreases-loop bytes i₀ i = length bytes - i
 
-pub say-bytes-spec : {M : Type 1} → statement M
-say-bytes-spec =
+pub say_bytes_spec : {M : Type 1} → statement M
+say_bytes_spec =
     tie.close
     (tie.spec
     invariant-loop

@@ -8,8 +8,8 @@ invariant-loop text i₀ i = i ≤ length text
 abbrev decreases-loop : tie.decreases-loop
 decreases-loop text i₀ i = length text - i
 
-pub say-text-spec : {M : Type 1} → statement M
-say-text-spec =
+pub say_text_spec : {M : Type 1} → statement M
+say_text_spec =
     tie.close
     (tie.spec
     invariant-loop

@@ -8,8 +8,8 @@ invariant-loop table start i₀ i = (start ≤ i) × (i ≤ length table)
 abbrev decreases-loop : tie.decreases-loop
 decreases-loop table start i₀ i = length table - i
 
-pub word-end-spec : {M : Type 1} → statement M
-word-end-spec =
+pub word_end_spec : {M : Type 1} → statement M
+word_end_spec =
     tie.close
     (tie.spec
     invariant-loop

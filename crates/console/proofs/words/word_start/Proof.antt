@@ -8,8 +8,8 @@ invariant-loop table number start₀ left₀ start left = start ≤ length table
 abbrev decreases-loop : tie.decreases-loop
 decreases-loop table number start₀ left₀ start left = left
 
-pub word-start-spec : {M : Type 1} → statement M
-word-start-spec =
+pub word_start_spec : {M : Type 1} → statement M
+word_start_spec =
     tie.close
     (tie.spec
     invariant-loop

@@ -1,17 +1,17 @@
-use Rattle.laws.specs.Framed.{no-begin, no_body, to_end}
+use Rattle.laws.specs.Framed.{no_begin, no_body, to_end}
 use Rattle.log.specs.Log.{events}
 use borrow.Author.Rules.{rules}
 use Rattle.coords.proofs.coords.read_window.Statement.{statement}
 use Rattle.coords.proofs.coords.read_window.Tie as tie
 
-pub read-window-spec : {M : Type 1} → statement M
-read-window-spec =
+pub read_window_spec : {M : Type 1} → statement M
+read_window_spec =
     tie.close
     (tie.spec
     (λ c κs. search rules)
     (λ c κs. search rules)
     (λ c. search rules)
-    (λ c. let a = c.before.before.before.before.before.before.before.before.before.before.before.before.before.args in no-begin (events a.feature) _ _ _ _ c.before.before.before.before.before.begin.ensures c.before.before.before.before.say.ensures c.if1.true)
+    (λ c. let a = c.before.before.before.before.before.before.before.before.before.before.before.before.before.args in no_begin (events a.feature) _ _ _ _ c.before.before.before.before.before.begin.ensures c.before.before.before.before.say.ensures c.if1.true)
     (λ c. search rules)
     (λ c. search rules)
     (λ c. search rules)

@@ -3,8 +3,8 @@ use borrow.Author.Rules.{rules}
 use Rattle.coords.proofs.pairs.read_coordinate.Statement.{statement}
 use Rattle.coords.proofs.pairs.read_coordinate.Tie as tie
 
-pub read-coordinate-spec : {M : Type 1} → statement M
-read-coordinate-spec =
+pub read_coordinate_spec : {M : Type 1} → statement M
+read_coordinate_spec =
     tie.close
     (tie.spec
     (λ c κs. search rules)

@@ -8,14 +8,14 @@ use Rattle.decimal.specs.FractionLaws.{tiny, rounded}
 use Rattle.decimal.proofs.fraction.ten_millionths.Statement.{statement}
 use Rattle.decimal.proofs.fraction.ten_millionths.Tie as tie
 
-add-result : tie.Need-overflow-add-result
-add-result c =
+add_result : tie.Need-overflow-add-result
+add_result c =
     let start = c.before.before.before.before.before.before.before in
     let product = c.before.before.before.before.before.times-one in
     omega (arith, product.ensures.2, shr_le product.result.high (start.args.bits - 32))
 
-returns-2 : tie.Need-returns-2
-returns-2 c =
+returns_2 : tie.Need-returns-2
+returns_2 c =
     let start = c.before.before.before.before.before.before.before in
     let product = c.before.before.before.before.before.times-one in
     rounded
@@ -30,8 +30,8 @@ returns-2 c =
     product.ensures.1
     (sym c.if2.true ∙ c.before.goes-up.ensures)
 
-returns-3 : tie.Need-returns-3
-returns-3 c =
+returns_3 : tie.Need-returns-3
+returns_3 c =
     let start = c.before.before.before.before.before.before.before in
     let product = c.before.before.before.before.before.times-one in
     let stays =
@@ -48,8 +48,8 @@ returns-3 c =
     (sym c.if2.false ∙ c.before.goes-up.ensures) in
     omega (arith, stays)
 
-pub ten-millionths-spec : {M : Type 1} → statement M
-ten-millionths-spec =
+pub ten_millionths_spec : {M : Type 1} → statement M
+ten_millionths_spec =
     tie.close
     (tie.spec
     (λ c. sym (tiny c.before.args.n c.before.args.bits (omega arith) c.if1.true))
@@ -59,6 +59,6 @@ ten-millionths-spec =
     (λ c. search rules)
     (λ c. search rules)
     (λ c κs. search rules)
-    add-result
-    returns-2
-    returns-3)
+    add_result
+    returns_2
+    returns_3)

@@ -15,8 +15,8 @@ invariant-loop text₀ n from end i₀ rest₀ text i rest = (from ≤ i) × (i 
 abbrev decreases-loop : tie.decreases-loop
 decreases-loop text₀ n from end i₀ rest₀ text i rest = i
 
-loop-again : tie.Need-loop-preserved invariant-loop decreases-loop
-loop-again c =
+loop_again : tie.Need-loop-preserved invariant-loop decreases-loop
+loop_again c =
     let from = c.before.before.before.before.args.from in
     let at = c.before.before.loop in (
       omega arith,
@@ -25,8 +25,8 @@ loop-again c =
       laid_more from at.i at.rest at.text _ at.invariant.3 c.digit.result (omega arith) (omega arith) c.digit.ensures,
     )
 
-pub lay-spec : {M : Type 1} → statement M
-lay-spec =
+pub lay_spec : {M : Type 1} → statement M
+lay_spec =
     tie.close
     (tie.spec
     invariant-loop
@@ -36,6 +36,6 @@ lay-spec =
     (λ c κs. search rules)
     (λ c. omega arith)
     (λ c. omega arith)
-    loop-again
+    loop_again
     (λ c. omega arith)
     (λ c. laid-all c.before.before.before.args.from c.before.loop.i c.before.loop.rest c.before.loop.text _ c.before.loop.invariant.3 (omega arith) (omega arith)))

@@ -4,7 +4,7 @@ use Prim.Native.Nat.{ℕ, ◌-◌}
 use native.Mathlib.Omega.{arith}
 use lib.ListN.{length, length-set}
 use borrow.Author.Rules.{rules}
-use Rattle.laws.specs.Cond.{if-so, if-not}
+use Rattle.laws.specs.Cond.{if_so, if_not}
 use Rattle.decimal.specs.TextLaws.{laid_out, put-before}
 use Rattle.decimal.proofs.text.spell.Statement.{statement}
 use Rattle.decimal.proofs.text.spell.Tie as tie
@@ -21,15 +21,15 @@ returns c =
         places = count.result;
         fewest = count.ensures.0;
         reads =
-            if-so _ c.if1.true
+            if_so _ c.if1.true
             (put-before text (21 - count.result) 45 (omega (arith, count.ensures.1)) (omega arith)
             ∙ ap (λ (x : List ℕ). 45 ∷ x)
             (laid_out count.result start.args.d.whole start.args.d.fraction start.args.text.now c.before.before.before.lay.new.0 text count.ensures.1 (search rules) (search rules) c.before.before.before.lay.ensures c.before.lay2.ensures));
       },
     )
 
-returns-2 : tie.Need-returns-2
-returns-2 c =
+returns_2 : tie.Need-returns-2
+returns_2 c =
     let start = c.before.before.before.before.before.before in
     let count = c.before.before.before.before.before.places in (
       omega (arith, count.ensures.1),
@@ -38,13 +38,13 @@ returns-2 c =
         places = count.result;
         fewest = count.ensures.0;
         reads =
-            if-not _ c.if1.false
+            if_not _ c.if1.false
             (laid_out count.result start.args.d.whole start.args.d.fraction start.args.text.now c.before.before.before.lay.new.0 c.before.lay2.new.0 count.ensures.1 (search rules) (search rules) c.before.before.before.lay.ensures c.before.lay2.ensures);
       },
     )
 
-pub spell-spec : {M : Type 1} → statement M
-spell-spec =
+pub spell_spec : {M : Type 1} → statement M
+spell_spec =
     tie.close
     (tie.spec
     (λ c κs. search rules)
@@ -56,4 +56,4 @@ spell-spec =
     (λ c. search rules)
     (λ c. search rules)
     returns
-    returns-2)
+    returns_2)

@@ -1,12 +1,12 @@
 use lib.ListN.{get_or}
 use lib.Dec.{eqb}
 use borrow.Author.Rules.{rules}
-use Rattle.event_layout.specs.Event.{eventOf}
+use Rattle.event_layout.specs.Event.{event_of}
 use Rattle.event_layout.proofs.event.event_of.Statement.{statement}
 use Rattle.event_layout.proofs.event.event_of.Tie as tie
 
-pub event-of-spec : {M : Type 1} → statement M
-event-of-spec =
+pub event_of_spec : {M : Type 1} → statement M
+event_of_spec =
     tie.close
     (tie.spec
     (λ c κs. search rules)
@@ -21,7 +21,7 @@ event-of-spec =
     (λ c. search rules)
     (λ c. search rules)
     (λ c. let l = c.before.before.before.before.before.before.before.before.before.before.before.before.args.bytes.now in
-    unfold eventOf in λ i. record {
+    unfold event_of in λ i. record {
       kind = get_or l 0 0;
       tagged = eqb (get_or l 1 0) 1;
       present = get_or l 2 0;

@@ -1,27 +1,27 @@
 use mathlib.Core.Path.{◌≡◌, sym, ap, ◌∙◌}
 use borrow.Author.Tests.{ne_eqb}
 use borrow.Author.Rules.{rules}
-use Rattle.kinds.specs.Event.{usesOf, parsed, isEvent}
+use Rattle.kinds.specs.Event.{uses_of, parsed, is_event}
 use Rattle.kinds.specs.EventLaws.{event-by}
-use Rattle.event_layout.specs.Event.{readEvent}
-use Rattle.event_layout.specs.EventLaws.{whole-read}
+use Rattle.event_layout.specs.Event.{read_event}
+use Rattle.event_layout.specs.EventLaws.{whole_read}
 use Rattle.event_layout.proofs.event.is_event.Statement.{statement}
 use Rattle.event_layout.proofs.event.is_event.Tie as tie
 
 -- the fields and the test of the spare byte are those of the bytes
-read : (c : tie.After-spare-zero) → isEvent (parsed c.spare-zero.result c.before.event-of.result) ≡ isEvent (readEvent c.before.before.before.before.args.bytes.now)
+read : (c : tie.After-spare-zero) → is_event (parsed c.spare-zero.result c.before.event-of.result) ≡ is_event (read_event c.before.before.before.before.args.bytes.now)
 read c =
-    (λ i. isEvent (parsed (c.spare-zero.ensures i) (c.before.event-of.ensures i))) ∙ sym (ap isEvent (whole-read c.before.before.before.before.args.bytes.now c.before.before.if1.false))
+    (λ i. is_event (parsed (c.spare-zero.ensures i) (c.before.event-of.ensures i))) ∙ sym (ap is_event (whole_read c.before.before.before.before.args.bytes.now c.before.before.if1.false))
 
-pub is-event-spec : {M : Type 1} → statement M
-is-event-spec =
+pub is_event_spec : {M : Type 1} → statement M
+is_event_spec =
     tie.close
     (tie.spec
-    (λ c. unfold readEvent in rw (ne_eqb _ _ c.if1.true))
+    (λ c. unfold read_event in rw (ne_eqb _ _ c.if1.true))
     (λ c κs. search rules)
     (λ c κs. search rules)
     (λ c κs. search rules)
-    (λ c. event-by _ _ (usesOf 65) (ap usesOf (sym c.before.if2.true)) c.keeps.ensures ∙ read c.before.before.before)
+    (λ c. event-by _ _ (uses_of 65) (ap uses_of (sym c.before.if2.true)) c.keeps.ensures ∙ read c.before.before.before)
     (λ c κs. search rules)
     (λ c κs. search rules)
     (λ c.

@@ -4,8 +4,8 @@ use Rattle.event_layout.specs.EventLaws.{own_pair}
 use Rattle.event_layout.proofs.event.is_pair.Statement.{statement}
 use Rattle.event_layout.proofs.event.is_pair.Tie as tie
 
-pub is-pair-spec : {M : Type 1} → statement M
-is-pair-spec =
+pub is_pair_spec : {M : Type 1} → statement M
+is_pair_spec =
     tie.close
     (tie.spec
     (λ c κs. search rules)

@@ -6,8 +6,8 @@ use Rattle.laws.specs.Runs.{then}
 use Rattle.event_layout.proofs.event.put_doubles.Statement.{statement}
 use Rattle.event_layout.proofs.event.put_doubles.Tie as tie
 
-pub put-doubles-spec : {M : Type 1} → statement M
-put-doubles-spec =
+pub put_doubles_spec : {M : Type 1} → statement M
+put_doubles_spec =
     tie.close
     (tie.spec
     (λ c κs. search rules)

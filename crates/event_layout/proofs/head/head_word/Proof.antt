@@ -4,8 +4,8 @@ use Rattle.event_layout.specs.Head.{head-word}
 use Rattle.event_layout.proofs.head.head_word.Statement.{statement}
 use Rattle.event_layout.proofs.head.head_word.Tie as tie
 
-pub head-word-spec : {M : Type 1} → statement M
-head-word-spec =
+pub head_word_spec : {M : Type 1} → statement M
+head_word_spec =
     tie.close
     (tie.spec
     (λ c. search rules)

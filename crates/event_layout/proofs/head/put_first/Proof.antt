@@ -4,8 +4,8 @@ use borrow.Author.Rules.{rules}
 use Rattle.event_layout.proofs.head.put_first.Statement.{statement}
 use Rattle.event_layout.proofs.head.put_first.Tie as tie
 
-pub put-first-spec : {M : Type 1} → statement M
-put-first-spec =
+pub put_first_spec : {M : Type 1} → statement M
+put_first_spec =
     tie.close
     (tie.spec
     (λ c κs. search rules)

@@ -6,8 +6,8 @@ use Rattle.event_layout.specs.Head.{two-words}
 use Rattle.event_layout.proofs.head.put_two.Statement.{statement}
 use Rattle.event_layout.proofs.head.put_two.Tie as tie
 
-pub put-two-spec : {M : Type 1} → statement M
-put-two-spec =
+pub put_two_spec : {M : Type 1} → statement M
+put_two_spec =
     tie.close
     (tie.spec
     (λ c. search rules)

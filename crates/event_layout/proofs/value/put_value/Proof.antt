@@ -4,13 +4,13 @@ use Prim.Native.Nat.{◌%◌, ◌/◌}
 use native.Mathlib.Omega.{arith}
 use borrow.Author.Rules.{rules}
 use Rattle.laws.specs.Bytes.{le}
-use Rattle.laws.specs.Runs.{then, sets-whole}
-use Rattle.event_layout.specs.Value.{valueBytes}
+use Rattle.laws.specs.Runs.{then, sets_whole}
+use Rattle.event_layout.specs.Value.{value_bytes}
 use Rattle.event_layout.proofs.value.put_value.Statement.{statement}
 use Rattle.event_layout.proofs.value.put_value.Tie as tie
 
-pub put-value-spec : {M : Type 1} → statement M
-put-value-spec =
+pub put_value_spec : {M : Type 1} → statement M
+put_value_spec =
     tie.close
     (tie.spec
     (λ c κs. search rules)
@@ -19,7 +19,7 @@ put-value-spec =
     (λ c κs. search rules)
     (λ c κs. search rules)
     (λ c. search rules)
-    (λ c. unfold valueBytes in let fourth = c.before.before in
+    (λ c. unfold value_bytes in let fourth = c.before.before in
     let third = fourth.before.before.before.before in
     let second = third.before.before.before.before in
     let first = second.before.before.before.before.before in
@@ -36,5 +36,5 @@ put-value-spec =
     (then l column (le 2 v.kind) 0 2 first.put-u16.ensures refl second.put-u162.ensures)
     refl third.put-u32.ensures)
     refl fourth.put-u64.ensures
-    ∙ sets-whole l (len ++ le 8 v.word) first.before.before.before.requires
+    ∙ sets_whole l (len ++ le 8 v.word) first.before.before.before.requires
     ∙ rw (low, high)))

@@ -2,8 +2,8 @@ use borrow.Author.Rules.{rules}
 use Rattle.geometry_layout.proofs.geometry.absent_zero.Statement.{statement}
 use Rattle.geometry_layout.proofs.geometry.absent_zero.Tie as tie
 
-pub absent-zero-spec : {M : Type 1} → statement M
-absent-zero-spec =
+pub absent_zero_spec : {M : Type 1} → statement M
+absent_zero_spec =
     tie.close
     (tie.spec
     (λ c. search rules)

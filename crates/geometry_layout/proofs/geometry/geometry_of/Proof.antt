@@ -1,11 +1,11 @@
 use lib.ListN.{get_or}
 use borrow.Author.Rules.{rules}
-use Rattle.geometry_layout.specs.Geometry.{geometryOf}
+use Rattle.geometry_layout.specs.Geometry.{geometry_of}
 use Rattle.geometry_layout.proofs.geometry.geometry_of.Statement.{statement}
 use Rattle.geometry_layout.proofs.geometry.geometry_of.Tie as tie
 
-pub geometry-of-spec : {M : Type 1} → statement M
-geometry-of-spec =
+pub geometry_of_spec : {M : Type 1} → statement M
+geometry_of_spec =
     tie.close
     (tie.spec
     (λ c κs. search rules)
@@ -16,7 +16,7 @@ geometry-of-spec =
     (λ c κs. search rules)
     (λ c κs. search rules)
     (λ c. search rules)
-    (λ c. unfold geometryOf in λ i. record {
+    (λ c. unfold geometry_of in λ i. record {
       kind = get_or c.before.before.before.before.before.before.before.before.before.args.bytes.now 0 0;
       xy = c.before.before.before.before.before.before.before.span-at.ensures i;
       ends = c.before.before.before.before.before.before.span-at2.ensures i;

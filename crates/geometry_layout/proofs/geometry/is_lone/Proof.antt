@@ -6,8 +6,8 @@ use Rattle.geometry_layout.specs.Lone.{is_lone}
 use Rattle.geometry_layout.proofs.geometry.is_lone.Statement.{statement}
 use Rattle.geometry_layout.proofs.geometry.is_lone.Tie as tie
 
-pub is-lone-spec : {M : Type 1} → statement M
-is-lone-spec =
+pub is_lone_spec : {M : Type 1} → statement M
+is_lone_spec =
     tie.close
     (tie.spec
     (λ c. search rules)

@@ -2,8 +2,8 @@ use borrow.Author.Rules.{rules}
 use Rattle.geometry_layout.proofs.geometry.span_at.Statement.{statement}
 use Rattle.geometry_layout.proofs.geometry.span_at.Tie as tie
 
-pub span-at-spec : {M : Type 1} → statement M
-span-at-spec =
+pub span_at_spec : {M : Type 1} → statement M
+span_at_spec =
     tie.close
     (tie.spec
     (λ c. search rules)

@@ -18,59 +18,59 @@ returns : tie.Need-returns invariant-loop decreases-loop
 returns c = search rules
 
 -- src/columns.rt:109:9
-returns-2 : tie.Need-returns-2 invariant-loop decreases-loop
-returns-2 c = search rules
+returns_2 : tie.Need-returns-2 invariant-loop decreases-loop
+returns_2 c = search rules
 
 -- src/columns.rt:119:5
-loop-holds : tie.Need-loop-init invariant-loop decreases-loop
-loop-holds c = search rules
+loop_holds : tie.Need-loop-init invariant-loop decreases-loop
+loop_holds c = search rules
 
 -- src/columns.rt:120:9
-read-column-requires : tie.Need-read-column-requires invariant-loop decreases-loop
-read-column-requires c κs = search rules
+read_column_requires : tie.Need-read-column-requires invariant-loop decreases-loop
+read_column_requires c κs = search rules
 
 -- src/columns.rt:122:13
 same_length : tie.Need-same-length invariant-loop decreases-loop
 same_length c = search rules
 
 -- src/columns.rt:122:13
-returns-3 : tie.Need-returns-3 invariant-loop decreases-loop
-returns-3 c = search rules
+returns_3 : tie.Need-returns-3 invariant-loop decreases-loop
+returns_3 c = search rules
 
 -- src/columns.rt:124:9
-add-i : tie.Need-overflow-add-i invariant-loop decreases-loop
-add-i c = search rules
+add_i : tie.Need-overflow-add-i invariant-loop decreases-loop
+add_i c = search rules
 
 -- src/columns.rt:119:5
-loop-less : tie.Need-loop-smaller invariant-loop decreases-loop
-loop-less c = search rules
+loop_less : tie.Need-loop-smaller invariant-loop decreases-loop
+loop_less c = search rules
 
 -- src/columns.rt:119:5
-loop-again : tie.Need-loop-preserved invariant-loop decreases-loop
-loop-again c = search rules
+loop_again : tie.Need-loop-preserved invariant-loop decreases-loop
+loop_again c = search rules
 
 -- src/columns.rt:101:1
-same-length-2 : tie.Need-same-length-2 invariant-loop decreases-loop
-same-length-2 c = search rules
+same_length_2 : tie.Need-same-length-2 invariant-loop decreases-loop
+same_length_2 c = search rules
 
 -- src/columns.rt:101:1
-returns-4 : tie.Need-returns-4 invariant-loop decreases-loop
-returns-4 c = search rules
+returns_4 : tie.Need-returns-4 invariant-loop decreases-loop
+returns_4 c = search rules
 
-pub read-columns-spec : {M : Type 1} → statement M
-read-columns-spec =
+pub read_columns_spec : {M : Type 1} → statement M
+read_columns_spec =
     tie.close
     (tie.spec
     invariant-loop
     decreases-loop
     returns
-    returns-2
-    loop-holds
-    read-column-requires
+    returns_2
+    loop_holds
+    read_column_requires
     same_length
-    returns-3
-    add-i
-    loop-less
-    loop-again
-    same-length-2
-    returns-4)
+    returns_3
+    add_i
+    loop_less
+    loop_again
+    same_length_2
+    returns_4)

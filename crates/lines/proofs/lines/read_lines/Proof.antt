@@ -4,9 +4,9 @@ use Prim.Native.Nat.{◌-◌, ◌≤◌}
 use lib.ListN.{length, drop}
 use Rattle.laws.specs.Script.{run}
 use Rattle.log.specs.Log.{events}
-use Rattle.laws.specs.Framed.{went_on, broke-off, ended}
-use Rattle.coords.specs.Seen.{coordsIn}
-use Rattle.lines.specs.Lines.{linesS}
+use Rattle.laws.specs.Framed.{went_on, broke_off, ended}
+use Rattle.coords.specs.Seen.{coords_in}
+use Rattle.lines.specs.Lines.{lines_s}
 use Rattle.lines.specs.LineLaws.{lines_next, lines_end}
 use Rattle.lines.proofs.lines.read_lines.Statement.{statement}
 use Rattle.lines.proofs.lines.read_lines.Tie as tie
@@ -14,13 +14,13 @@ use Rattle.lines.proofs.lines.read_lines.Tie as tie
 abbrev invariant-loop : tie.invariant-loop
 invariant-loop log₀ feature count xy ends z m t tm seen said₀ before₀ i₀ log said before i =
     (length xy ≤ 131072) × (length ends ≤ 65536) × (length log ≡ length log₀)
-    × (run (events feature) (linesS (coordsIn seen xy z m t tm) ends 0 0) log₀ count ≡ run (events feature) (linesS (coordsIn seen xy z m t tm) (drop i ends) before i) log said)
+    × (run (events feature) (lines_s (coords_in seen xy z m t tm) ends 0 0) log₀ count ≡ run (events feature) (lines_s (coords_in seen xy z m t tm) (drop i ends) before i) log said)
 
 abbrev decreases-loop : tie.decreases-loop
 decreases-loop log₀ feature count xy ends z m t tm seen said₀ before₀ i₀ log said before i = length ends - i
 
-pub read-lines-spec : {M : Type 1} → statement M
-read-lines-spec =
+pub read_lines_spec : {M : Type 1} → statement M
+read_lines_spec =
     tie.close
     (tie.spec
     invariant-loop
@@ -31,9 +31,9 @@ read-lines-spec =
     (λ c. search rules)
     (λ c κs. search rules)
     (λ c. search rules)
-    (λ c. let a = c.before.before.before.before.before.before.before.before.before.before.before.before.before.before.before.before.args in let l = c.before.before.before.before.before.before.before.before.loop in broke-off (events a.feature) _ _ _ _ {L' = c.before.before.before.before.read-multilinestring-part.new.0} l.invariant.3 (lines_next (coordsIn a.seen a.xy.now a.z.now a.m.now a.t.now a.tm.now) a.ends.now l.before l.i l.i c.before.before.before.before.before.before.before.loop-test.true) c.before.before.before.before.read-multilinestring-part.ensures c.if1.true)
+    (λ c. let a = c.before.before.before.before.before.before.before.before.before.before.before.before.before.before.before.before.args in let l = c.before.before.before.before.before.before.before.before.loop in broke_off (events a.feature) _ _ _ _ {L' = c.before.before.before.before.read-multilinestring-part.new.0} l.invariant.3 (lines_next (coords_in a.seen a.xy.now a.z.now a.m.now a.t.now a.tm.now) a.ends.now l.before l.i l.i c.before.before.before.before.before.before.before.loop-test.true) c.before.before.before.before.read-multilinestring-part.ensures c.if1.true)
     (λ c. search rules)
     (λ c. search rules)
-    (λ c. let a = c.before.before.before.before.before.before.before.before.before.before.before.before.before.before.before.before.args in let l = c.before.before.before.before.before.before.before.before.loop in (search rules, search rules, search rules, went_on (events a.feature) _ _ _ _ {L' = c.before.before.before.before.read-multilinestring-part.new.0} l.invariant.3 (lines_next (coordsIn a.seen a.xy.now a.z.now a.m.now a.t.now a.tm.now) a.ends.now l.before l.i l.i c.before.before.before.before.before.before.before.loop-test.true) c.before.before.before.before.read-multilinestring-part.ensures c.if1.false))
+    (λ c. let a = c.before.before.before.before.before.before.before.before.before.before.before.before.before.before.before.before.args in let l = c.before.before.before.before.before.before.before.before.loop in (search rules, search rules, search rules, went_on (events a.feature) _ _ _ _ {L' = c.before.before.before.before.read-multilinestring-part.new.0} l.invariant.3 (lines_next (coords_in a.seen a.xy.now a.z.now a.m.now a.t.now a.tm.now) a.ends.now l.before l.i l.i c.before.before.before.before.before.before.before.loop-test.true) c.before.before.before.before.read-multilinestring-part.ensures c.if1.false))
     (λ c. search rules)
-    (λ c. let a = c.before.before.before.before.before.before.before.before.before.args in let l = c.before.loop in ended (events a.feature) _ _ 0 l.invariant.3 (lines_end (coordsIn a.seen a.xy.now a.z.now a.m.now a.t.now a.tm.now) a.ends.now l.before l.i l.i c.loop-test.false)))
+    (λ c. let a = c.before.before.before.before.before.before.before.before.before.args in let l = c.before.loop in ended (events a.feature) _ _ 0 l.invariant.3 (lines_end (coords_in a.seen a.xy.now a.z.now a.m.now a.t.now a.tm.now) a.ends.now l.before l.i l.i c.loop-test.false)))

@@ -6,8 +6,8 @@ use borrow.Author.Rules.{rules}
 use Rattle.lines.proofs.lines.read_multilinestring.Statement.{statement}
 use Rattle.lines.proofs.lines.read_multilinestring.Tie as tie
 
-pub read-multilinestring-spec : {M : Type 1} → statement M
-read-multilinestring-spec =
+pub read_multilinestring_spec : {M : Type 1} → statement M
+read_multilinestring_spec =
     tie.close
     (tie.spec
     (λ c κs. search rules)

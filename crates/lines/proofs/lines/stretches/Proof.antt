@@ -3,8 +3,8 @@ use borrow.Author.Rules.{rules}
 use Rattle.lines.proofs.lines.stretches.Statement.{statement}
 use Rattle.lines.proofs.lines.stretches.Tie as tie
 
-pub stretches-spec : {M : Type 1} → statement M
-stretches-spec =
+pub stretches_spec : {M : Type 1} → statement M
+stretches_spec =
     tie.close
     (tie.spec
     (λ c. search rules)

@@ -4,5 +4,5 @@ use Rattle.log.specs.LogLaws.{heard-event}
 use Rattle.log.proofs.events.event_in.Statement.{statement}
 use Rattle.log.proofs.events.event_in.Tie as tie
 
-pub event-in-spec : {M : Type 1} → statement M
-event-in-spec = tie.close (tie.spec (λ c κs. search rules) (λ c e h. c.event-of.ensures ∙ (heard-event _ e h).fields))
+pub event_in_spec : {M : Type 1} → statement M
+event_in_spec = tie.close (tie.spec (λ c κs. search rules) (λ c e h. c.event-of.ensures ∙ (heard-event _ e h).fields))

@@ -4,5 +4,5 @@ use Rattle.laws.specs.Script.{room_at}
 use Rattle.log.proofs.room.has_room.Statement.{statement}
 use Rattle.log.proofs.room.has_room.Tie as tie
 
-pub has-room-spec : {M : Type 1} → statement M
-has-room-spec = tie.close (tie.spec (λ c. search rules) (λ c. unfold room_at in refl))
+pub has_room_spec : {M : Type 1} → statement M
+has_room_spec = tie.close (tie.spec (λ c. search rules) (λ c. unfold room_at in refl))

@@ -7,9 +7,9 @@ use lib.ListN.{length}
 use borrow.Author.Rules.{rules}
 use Rattle.kinds.specs.declared.event.Event.{Event}
 use Rattle.kinds.specs.declared.geometry.Lent.{Lent}
-use Rattle.log.specs.Log.{recordOf}
+use Rattle.log.specs.Log.{record_of}
 use Rattle.store.specs.Lists.{lent_of}
-use Rattle.store.specs.Records.{recordsLent}
+use Rattle.store.specs.Records.{records_lent}
 use Rattle.runs.specs.declared.run.Stop.{Stop}
 use Rattle.runs.specs.declared.run.Stop.TheVariants.{Other}
 use Rattle.writing.specs.declared.feature.Feature.TheVariants.{Numbered}
@@ -17,12 +17,12 @@ use Rattle.writing.specs.declared.state.State.{State}
 use Rattle.writing.specs.declared.state.Wrote.{Wrote}
 use Rattle.writing.specs.Other.{other-held}
 use Rattle.writing.specs.Apart.{ready_of}
-use Rattle.writing.specs.Calls.{eventCall}
+use Rattle.writing.specs.Calls.{event_call}
 use Rattle.runs.specs.Events.{took, progress}
-use Rattle.many.specs.Going.{Going, begun, at-run, at-end, at-blocked, at-malformed, at-refused, at-taken}
-use Rattle.many.specs.OtherCall.{other-call}
-use Rattle.runs.specs.Run.{Values, values_of, memWith, Stopped}
-use Rattle.writing.specs.State.{Mem, mem_of, withPending, outcome}
+use Rattle.many.specs.Going.{Going, begun, at-run, at-end, at_blocked, at-malformed, at_refused, at-taken}
+use Rattle.many.specs.OtherCall.{other_call}
+use Rattle.runs.specs.Run.{Values, values_of, mem_with, Stopped}
+use Rattle.writing.specs.State.{Mem, mem_of, with_pending, outcome}
 use Rattle.many.proofs.all.take_all.Statement.{statement}
 use Rattle.many.proofs.all.take_all.Tie as tie
 
@@ -60,13 +60,13 @@ abbrev taken : Ran → ℕ
 taken c = c.take-plain.result.taken
 
 abbrev state : Ran → State
-state c = withPending c.before.before.before.before.before.before.loop.state c.take-plain.result.pending
+state c = with_pending c.before.before.before.before.before.before.loop.state c.take-plain.result.pending
 
 abbrev values : Ran → Values
 values c = let l = c.take-plain.new in values_of l.1.1.1.1.1.0 l.1.1.1.1.1.1.0 l.1.1.1.1.1.1.1.0 l.1.1.1.1.1.1.1.1.0 l.1.1.1.1.1.1.1.1.1.0
 
 abbrev memory : Ran → Mem
-memory c = memWith c.before.before.before.before.before.before.loop.table c.before.before.before.before.before.before.loop.ends (values c)
+memory c = mem_with c.before.before.before.before.before.before.loop.table c.before.before.before.before.before.before.loop.ends (values c)
 
 ran : (c : Ran) → Going (bytes c) (held c) (start c).args.s (first c) (ready c) (taken c) (state c) (memory c)
 ran c =
@@ -81,23 +81,23 @@ module _ {bytes : List ℕ} {held : ℕ} {s₀ : State} {k₀ : Mem} {ready : Bo
   length-table : length k.table ≡ length k₀.table
   length-table = so_far.table
 
-  length-xy : length k.pools.xy ≡ length k₀.pools.xy
-  length-xy = ap (λ (l : Lent). l.xy) so_far.pools
+  length_xy : length k.pools.xy ≡ length k₀.pools.xy
+  length_xy = ap (λ (l : Lent). l.xy) so_far.pools
 
   length-ends : length k.pools.ends ≡ length k₀.pools.ends
   length-ends = ap (λ (l : Lent). l.ends) so_far.pools
 
-  length-z : length k.pools.z ≡ length k₀.pools.z
-  length-z = ap (λ (l : Lent). l.z) so_far.pools
+  length_z : length k.pools.z ≡ length k₀.pools.z
+  length_z = ap (λ (l : Lent). l.z) so_far.pools
 
-  length-m : length k.pools.m ≡ length k₀.pools.m
-  length-m = ap (λ (l : Lent). l.m) so_far.pools
+  length_m : length k.pools.m ≡ length k₀.pools.m
+  length_m = ap (λ (l : Lent). l.m) so_far.pools
 
-  length-t : length k.pools.t ≡ length k₀.pools.t
-  length-t = ap (λ (l : Lent). l.t) so_far.pools
+  length_t : length k.pools.t ≡ length k₀.pools.t
+  length_t = ap (λ (l : Lent). l.t) so_far.pools
 
-  length-tm : length k.pools.tm ≡ length k₀.pools.tm
-  length-tm = ap (λ (l : Lent). l.tm) so_far.pools
+  length_tm : length k.pools.tm ≡ length k₀.pools.tm
+  length_tm = ap (λ (l : Lent). l.tm) so_far.pools
 
 -- ---- an event that is not plain
 abbrev Other-taken : Type 0
@@ -118,16 +118,16 @@ after-other c =
 abbrev told : (c : Other-taken) → Stopped (bytes (before c)) (ready (before c)) (held (before c)) (taken (before c)) (before c).take-plain.result.pending (values (before c)) (Other (event c))
 told c = stopped (before c) _ c.before.before.before.before.stop2.given.1
 
-other-is : (c : Other-taken) → outcome c.take-other.result (after-other c) ≡ eventCall (state (before c)) (memory (before c)) (recordOf (bytes (before c)) (taken (before c)))
+other-is : (c : Other-taken) → outcome c.take-other.result (after-other c) ≡ event_call (state (before c)) (memory (before c)) (record_of (bytes (before c)) (taken (before c)))
 other-is c =
     let at = (before c).before.before.before.before.before.before.loop in
     let v = values (before c) in
     let is = c.take-other.ensures in
-    other-call (state (before c)) (held (before c)) (ready (before c)) (event c) at.table v.xy at.ends v.z v.m v.t v.tm (ran (before c)).tells _ (told c).1 (told c).2 (told c).3 is.0 is.1.0 is.1.1
+    other_call (state (before c)) (held (before c)) (ready (before c)) (event c) at.table v.xy at.ends v.z v.m v.t v.tm (ran (before c)).tells _ (told c).1 (told c).2 (told c).3 is.0 is.1.0 is.1.1
 
 -- an accepted one leaves its feature in hand
-in-hand : (c : Other-taken) → c.take-other.result.number ≡ 0 → c.take-other.result.state.feature ≡ Numbered (held (before c))
-in-hand c ok =
+in_hand_lem : (c : Other-taken) → c.take-other.result.number ≡ 0 → c.take-other.result.state.feature ≡ Numbered (held (before c))
+in_hand_lem c ok =
     let is = c.take-other.ensures.0 in
     ap (λ (w : Wrote). w.state.feature) is ∙ other-held _ _ _ _ _ _ (ap (λ (w : Wrote). w.number) (sym is) ∙ ok)
 
@@ -151,49 +151,49 @@ take_all_spec =
     (λ c. search rules)
     (λ c κs. search rules)
     (λ c. length-table (ran c.before.before.before.before.before.before.before.before.before.before.before.before.before.before))
-    (λ c. length-xy (ran c.before.before.before.before.before.before.before.before.before.before.before.before.before.before))
+    (λ c. length_xy (ran c.before.before.before.before.before.before.before.before.before.before.before.before.before.before))
     (λ c. length-ends (ran c.before.before.before.before.before.before.before.before.before.before.before.before.before.before))
-    (λ c. length-z (ran c.before.before.before.before.before.before.before.before.before.before.before.before.before.before))
-    (λ c. length-m (ran c.before.before.before.before.before.before.before.before.before.before.before.before.before.before))
-    (λ c. length-t (ran c.before.before.before.before.before.before.before.before.before.before.before.before.before.before))
-    (λ c. length-tm (ran c.before.before.before.before.before.before.before.before.before.before.before.before.before.before))
+    (λ c. length_z (ran c.before.before.before.before.before.before.before.before.before.before.before.before.before.before))
+    (λ c. length_m (ran c.before.before.before.before.before.before.before.before.before.before.before.before.before.before))
+    (λ c. length_t (ran c.before.before.before.before.before.before.before.before.before.before.before.before.before.before))
+    (λ c. length_tm (ran c.before.before.before.before.before.before.before.before.before.before.before.before.before.before))
     (λ c. let w = c.before.before.before.before.before.before.before.before.before.before.before.before.before.before in ap (λ (n : ℕ). progress (took n (taken w) (state w)) (memory w)) c.rest-number.ensures ∙ at-end (ran w) (stopped w _ c.before.enum_told.given.1))
     (λ c. search rules)
     (λ c κs. search rules)
     (λ c. length-table (ran c.before.before.before.before.before.before.before.before.before.before.before.before.before.before.before))
-    (λ c. length-xy (ran c.before.before.before.before.before.before.before.before.before.before.before.before.before.before.before))
+    (λ c. length_xy (ran c.before.before.before.before.before.before.before.before.before.before.before.before.before.before.before))
     (λ c. length-ends (ran c.before.before.before.before.before.before.before.before.before.before.before.before.before.before.before))
-    (λ c. length-z (ran c.before.before.before.before.before.before.before.before.before.before.before.before.before.before.before))
-    (λ c. length-m (ran c.before.before.before.before.before.before.before.before.before.before.before.before.before.before.before))
-    (λ c. length-t (ran c.before.before.before.before.before.before.before.before.before.before.before.before.before.before.before))
-    (λ c. length-tm (ran c.before.before.before.before.before.before.before.before.before.before.before.before.before.before.before))
+    (λ c. length_z (ran c.before.before.before.before.before.before.before.before.before.before.before.before.before.before.before))
+    (λ c. length_m (ran c.before.before.before.before.before.before.before.before.before.before.before.before.before.before.before))
+    (λ c. length_t (ran c.before.before.before.before.before.before.before.before.before.before.before.before.before.before.before))
+    (λ c. length_tm (ran c.before.before.before.before.before.before.before.before.before.before.before.before.before.before.before))
     (λ c.
     let w = c.before.before.before.before.before.before.before.before.before.before.before.before.before.before.before in
     let at = w.before.before.before.before.before.before.loop in
     ap (λ (n : ℕ). progress (took n (taken w) (state w)) (memory w)) c.blocked-number.ensures
-    ∙ at-blocked {s = state w} {table = at.table} {ends = at.ends} {v = values w} (ran w) (stopped w _ c.before.before.stop.given.1))
+    ∙ at_blocked {s = state w} {table = at.table} {ends = at.ends} {v = values w} (ran w) (stopped w _ c.before.before.stop.given.1))
     (λ c. search rules)
     (λ c. length-table (ran c.before.before.before.before.before.before.before.before.before.before.before.before.before))
-    (λ c. length-xy (ran c.before.before.before.before.before.before.before.before.before.before.before.before.before))
+    (λ c. length_xy (ran c.before.before.before.before.before.before.before.before.before.before.before.before.before))
     (λ c. length-ends (ran c.before.before.before.before.before.before.before.before.before.before.before.before.before))
-    (λ c. length-z (ran c.before.before.before.before.before.before.before.before.before.before.before.before.before))
-    (λ c. length-m (ran c.before.before.before.before.before.before.before.before.before.before.before.before.before))
-    (λ c. length-t (ran c.before.before.before.before.before.before.before.before.before.before.before.before.before))
-    (λ c. length-tm (ran c.before.before.before.before.before.before.before.before.before.before.before.before.before))
+    (λ c. length_z (ran c.before.before.before.before.before.before.before.before.before.before.before.before.before))
+    (λ c. length_m (ran c.before.before.before.before.before.before.before.before.before.before.before.before.before))
+    (λ c. length_t (ran c.before.before.before.before.before.before.before.before.before.before.before.before.before))
+    (λ c. length_tm (ran c.before.before.before.before.before.before.before.before.before.before.before.before.before))
     (λ c. let w = c.before.before.before.before.before.before.before.before.before.before.before.before.before in let stop = stopped w _ c.enum-told2.given.1 in at-malformed (ran w) (omega (arith, stop.0)) stop.1)
     (λ c. search rules)
     (λ c κs.
     let w = c.before.before.before.before.before.before.before.before.before.before.before.before.before.before.before.before in
     let stop = stopped w _ c.before.before.before.stop2.given.1 in
-    (stop.2, λ ok. (ready_of (state w) (recordsLent (memory w).table) (lent_of (memory w).pools) ((ran w).tells ∙ ok)).room.fits))
+    (stop.2, λ ok. (ready_of (state w) (records_lent (memory w).table) (lent_of (memory w).pools) ((ran w).tells ∙ ok)).room.fits))
     (λ c. kept_table c.before.before.before.before.before.before ∙ length-table (ran (before c.before.before.before.before.before.before)))
-    (λ c. length-xy (ran (before c.before.before.before.before.before.before)))
+    (λ c. length_xy (ran (before c.before.before.before.before.before.before)))
     (λ c. kept-ends c.before.before.before.before.before.before ∙ length-ends (ran (before c.before.before.before.before.before.before)))
-    (λ c. length-z (ran (before c.before.before.before.before.before.before)))
-    (λ c. length-m (ran (before c.before.before.before.before.before.before)))
-    (λ c. length-t (ran (before c.before.before.before.before.before.before)))
-    (λ c. length-tm (ran (before c.before.before.before.before.before.before)))
-    (λ c. let other = c.before.before.before.before.before.before in at-refused (ran (before other)) (omega (arith, (told other).0)) (other-is other) c.if1.true)
+    (λ c. length_z (ran (before c.before.before.before.before.before.before)))
+    (λ c. length_m (ran (before c.before.before.before.before.before.before)))
+    (λ c. length_t (ran (before c.before.before.before.before.before.before)))
+    (λ c. length_tm (ran (before c.before.before.before.before.before.before)))
+    (λ c. let other = c.before.before.before.before.before.before in at_refused (ran (before other)) (omega (arith, (told other).0)) (other-is other) c.if1.true)
     (λ c. let other = c.before.before.before.before.before.before.before in omega (arith, (told other).0, short (before other).before.before.before.before.before.before.before.before.before.before.before.before.before.before.before.before.before.before))
     (λ c. let other = c.before.before.before.before.before.before.before in omega (arith, (told other).0, (before other).take-plain.ensures.run.begun))
     (λ c.
@@ -201,4 +201,4 @@ take_all_spec =
     let w = before other in
     at-taken (ran w) (omega (arith, (told other).0)) (other-is other) c.before.if1.false (omega (arith, (told other).0)) (kept_table other)
     (λ i. record { xy = length (values w).xy; ends = kept-ends other i; z = length (values w).z; m = length (values w).m; t = length (values w).t; tm = length (values w).tm })
-    (in-hand other c.before.if1.false)))
+    (in_hand_lem other c.before.if1.false)))

@@ -5,8 +5,8 @@ use Rattle.laws.specs.Runs.{four}
 use Rattle.numbers.proofs.little_endian.put_u32.Statement.{statement}
 use Rattle.numbers.proofs.little_endian.put_u32.Tie as tie
 
-pub put-u32-spec : {M : Type 1} → statement M
-put-u32-spec =
+pub put_u32_spec : {M : Type 1} → statement M
+put_u32_spec =
     tie.close
     (tie.spec
     (λ c κs. search rules)

@@ -8,8 +8,8 @@ use Rattle.laws.specs.Bytes.{le, halves}
 use Rattle.numbers.proofs.little_endian.put_u64.Statement.{statement}
 use Rattle.numbers.proofs.little_endian.put_u64.Tie as tie
 
-pub put-u64-spec : {M : Type 1} → statement M
-put-u64-spec =
+pub put_u64_spec : {M : Type 1} → statement M
+put_u64_spec =
     tie.close
     (tie.spec
     (λ c. search rules)

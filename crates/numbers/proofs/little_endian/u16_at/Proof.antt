@@ -4,8 +4,8 @@ use Rattle.laws.specs.Bytes.{two_at}
 use Rattle.numbers.proofs.little_endian.u16_at.Statement.{statement}
 use Rattle.numbers.proofs.little_endian.u16_at.Tie as tie
 
-pub u16-at-spec : {M : Type 1} → statement M
-u16-at-spec =
+pub u16_at_spec : {M : Type 1} → statement M
+u16_at_spec =
     tie.close
     (tie.spec
     (λ c. search rules)

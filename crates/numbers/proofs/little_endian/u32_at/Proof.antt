@@ -4,8 +4,8 @@ use Rattle.laws.specs.Bytes.{four-at}
 use Rattle.numbers.proofs.little_endian.u32_at.Statement.{statement}
 use Rattle.numbers.proofs.little_endian.u32_at.Tie as tie
 
-pub u32-at-spec : {M : Type 1} → statement M
-u32-at-spec =
+pub u32_at_spec : {M : Type 1} → statement M
+u32_at_spec =
     tie.close
     (tie.spec
     (λ c. search rules)

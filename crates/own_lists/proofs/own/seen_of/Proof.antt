@@ -1,10 +1,10 @@
-use Rattle.own_lists.specs.Own.{seenOf}
+use Rattle.own_lists.specs.Own.{seen_of}
 use borrow.Author.Rules.{rules}
 use Rattle.own_lists.proofs.own.seen_of.Statement.{statement}
 use Rattle.own_lists.proofs.own.seen_of.Tie as tie
 
-pub seen-of-spec : {M : Type 1} → statement M
-seen-of-spec =
+pub seen_of_spec : {M : Type 1} → statement M
+seen_of_spec =
     tie.close
     (tie.spec
     (λ c κs. search rules)
@@ -13,4 +13,4 @@ seen-of-spec =
     (λ c κs. search rules)
     (λ c κs. search rules)
     (λ c κs. search rules)
-    (λ c. unfold seenOf in cc))
+    (λ c. unfold seen_of in cc))

@@ -2,8 +2,8 @@ use borrow.Author.Rules.{rules}
 use Rattle.pending.proofs.growth.fronted_all.Statement.{statement}
 use Rattle.pending.proofs.growth.fronted_all.Tie as tie
 
-pub fronted-all-spec : {M : Type 1} → statement M
-fronted-all-spec =
+pub fronted_all_spec : {M : Type 1} → statement M
+fronted_all_spec =
     tie.close
     (tie.spec
     (λ c κs. search rules)

@@ -2,8 +2,8 @@ use native.Mathlib.Omega.{arith}
 use Rattle.pending.proofs.growth.grown_values.Statement.{statement}
 use Rattle.pending.proofs.growth.grown_values.Tie as tie
 
-pub grown-values-spec : {M : Type 1} → statement M
-grown-values-spec =
+pub grown_values_spec : {M : Type 1} → statement M
+grown_values_spec =
     tie.close
     (tie.spec
     (λ c κs. (omega (arith, c.requires.xy), omega arith))

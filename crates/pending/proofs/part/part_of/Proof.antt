@@ -4,8 +4,8 @@ use Rattle.pending.specs.Growth.{part_of}
 use Rattle.pending.proofs.part.part_of.Statement.{statement}
 use Rattle.pending.proofs.part.part_of.Tie as tie
 
-pub part-of-spec : {M : Type 1} → statement M
-part-of-spec =
+pub part_of_spec : {M : Type 1} → statement M
+part_of_spec =
     tie.close
     (tie.spec
     (λ c κs. search rules)

@@ -8,8 +8,8 @@ use Rattle.property_reader.specs.Reading.{bytes_at}
 use Rattle.property_reader.proofs.item.bytes_at.Statement.{statement}
 use Rattle.property_reader.proofs.item.bytes_at.Tie as tie
 
-pub bytes-at-spec : {M : Type 1} → statement M
-bytes-at-spec =
+pub bytes_at_spec : {M : Type 1} → statement M
+bytes_at_spec =
     tie.close
     (tie.spec
     (λ c. search rules)

@@ -4,8 +4,8 @@ use Rattle.property_reader.specs.Reading.{item_at}
 use Rattle.property_reader.proofs.item.item_at.Statement.{statement}
 use Rattle.property_reader.proofs.item.item_at.Tie as tie
 
-pub item-at-spec : {M : Type 1} → statement M
-item-at-spec =
+pub item_at_spec : {M : Type 1} → statement M
+item_at_spec =
     tie.close
     (tie.spec
     (λ c. search rules)

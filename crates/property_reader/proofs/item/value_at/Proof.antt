@@ -4,8 +4,8 @@ use Rattle.property_reader.specs.Reading.{value_at}
 use Rattle.property_reader.proofs.item.value_at.Statement.{statement}
 use Rattle.property_reader.proofs.item.value_at.Tie as tie
 
-pub value-at-spec : {M : Type 1} → statement M
-value-at-spec =
+pub value_at_spec : {M : Type 1} → statement M
+value_at_spec =
     tie.close
     (tie.spec
     (λ c. unfold value_at in rw (lt-ltb _ _ c.if1.true))

@@ -3,8 +3,8 @@ use Rattle.property_value.specs.Value.{word_of}
 use Rattle.property_value.proofs.value.word_of.Statement.{statement}
 use Rattle.property_value.proofs.value.word_of.Tie as tie
 
-pub word-of-spec : {M : Type 1} → statement M
-word-of-spec =
+pub word_of_spec : {M : Type 1} → statement M
+word_of_spec =
     tie.close
     (tie.spec
     (λ c. unfold word_of in rw (ne_eqb c.before.args.kind 2 c.if1.true))

@@ -15,8 +15,8 @@ invariant-loop s₀ at bytes i₀ s i = (length s ≡ length s₀) × (i ≤ len
 abbrev decreases-loop : tie.decreases-loop
 decreases-loop s₀ at bytes i₀ s i = length bytes - i
 
-pub put-bytes-spec : {M : Type 1} → statement M
-put-bytes-spec =
+pub put_bytes_spec : {M : Type 1} → statement M
+put_bytes_spec =
     tie.close
     (tie.spec
     invariant-loop

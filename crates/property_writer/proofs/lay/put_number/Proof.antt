@@ -2,12 +2,12 @@ use mathlib.Core.Path.{◌≡◌}
 use Prim.Native.Nat.{◌%◌}
 use native.Mathlib.Omega.{arith}
 use borrow.Author.Rules.{rules}
-use Rattle.property_value.specs.ColumnLaws.{last-width}
+use Rattle.property_value.specs.ColumnLaws.{last_width}
 use Rattle.property_writer.proofs.lay.put_number.Statement.{statement}
 use Rattle.property_writer.proofs.lay.put_number.Tie as tie
 
-pub put-number-spec : {M : Type 1} → statement M
-put-number-spec =
+pub put_number_spec : {M : Type 1} → statement M
+put_number_spec =
     tie.close
     (tie.spec
     (λ c. let narrow = rw c.match.keys1 at c.before.before.requires.1 in omega arith)
@@ -19,7 +19,7 @@ put-number-spec =
     (λ c κs.
     let start = c.before.before.before in
     let other = c.before.match.rest in
-    omega (arith, last-width start.args.width start.requires.0 other.0.0.1 other.0.1 other.1))
+    omega (arith, last_width start.args.width start.requires.0 other.0.0.1 other.0.1 other.1))
     (λ c. search rules)
     (λ c.
     let start = c.before.before in
@@ -34,4 +34,4 @@ put-number-spec =
     (λ c.
     let start = c.before.before.before.before.before.before in
     let other = c.before.before.before.before.match.rest in
-    rw (last-width start.args.width start.requires.0 other.0.0.1 other.0.1 other.1) c.before.before.put-u64.ensures))
+    rw (last_width start.args.width start.requires.0 other.0.0.1 other.0.1 other.1) c.before.before.put-u64.ensures))

@@ -12,8 +12,8 @@ invariant-loop bytes₀ case k count described i₀ bytes i = (i ≤ count) × (
 abbrev decreases-loop : tie.decreases-loop
 decreases-loop bytes₀ case k count described i₀ bytes i = count - i
 
-pub lay-bytes-spec : {M : Type 1} → statement M
-lay-bytes-spec =
+pub lay_bytes_spec : {M : Type 1} → statement M
+lay_bytes_spec =
     tie.close
     (tie.spec
     invariant-loop

@@ -12,8 +12,8 @@ invariant-loop ends₀ case k count described i₀ ends i = (i ≤ count) × (co
 abbrev decreases-loop : tie.decreases-loop
 decreases-loop ends₀ case k count described i₀ ends i = count - i
 
-pub lay-ends-spec : {M : Type 1} → statement M
-lay-ends-spec =
+pub lay_ends_spec : {M : Type 1} → statement M
+lay_ends_spec =
     tie.close
     (tie.spec
     invariant-loop

@@ -12,8 +12,8 @@ invariant-loop words₀ case k place count described i₀ words i = (i ≤ count
 abbrev decreases-loop : tie.decreases-loop
 decreases-loop words₀ case k place count described i₀ words i = count - i
 
-pub lay-pool-spec : {M : Type 1} → statement M
-lay-pool-spec =
+pub lay_pool_spec : {M : Type 1} → statement M
+lay_pool_spec =
     tie.close
     (tie.spec
     invariant-loop

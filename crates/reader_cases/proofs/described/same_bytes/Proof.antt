@@ -10,8 +10,8 @@ invariant-loop bytes case k described i₀ i = i ≤ length bytes
 abbrev decreases-loop : tie.decreases-loop
 decreases-loop bytes case k described i₀ i = length bytes - i
 
-pub same-bytes-spec : {M : Type 1} → statement M
-same-bytes-spec =
+pub same_bytes_spec : {M : Type 1} → statement M
+same_bytes_spec =
     tie.close
     (tie.spec
     invariant-loop

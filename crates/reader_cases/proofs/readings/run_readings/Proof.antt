@@ -11,8 +11,8 @@ invariant-loop case laid table words ends memory₀ tally₀ readings i₀ memor
 abbrev decreases-loop : tie.decreases-loop
 decreases-loop case laid table words ends memory₀ tally₀ readings i₀ memory tally i = readings - i
 
-pub run-readings-spec : {M : Type 1} → statement M
-run-readings-spec =
+pub run_readings_spec : {M : Type 1} → statement M
+run_readings_spec =
     tie.close
     (tie.spec
     invariant-loop

@@ -13,8 +13,8 @@ invariant-loop ends₀ i₀ ends i =
 abbrev decreases-loop : tie.decreases-loop
 decreases-loop ends₀ i₀ ends i = length ends - i
 
-pub clear-ends-spec : {M : Type 1} → statement M
-clear-ends-spec =
+pub clear_ends_spec : {M : Type 1} → statement M
+clear_ends_spec =
     tie.close
     (tie.spec
     invariant-loop

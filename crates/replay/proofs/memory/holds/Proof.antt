@@ -10,8 +10,8 @@ invariant-loop memory place bytes i₀ i = i ≤ length memory
 abbrev decreases-loop : tie.decreases-loop
 decreases-loop memory place bytes i₀ i = length memory - i
 
-pub holds-spec : {M : Type 1} → statement M
-holds-spec =
+pub holds_spec : {M : Type 1} → statement M
+holds_spec =
     tie.close
     (tie.spec
     invariant-loop

@@ -12,8 +12,8 @@ invariant-loop memory₀ place bytes i₀ memory i = (i ≤ length memory) × (l
 abbrev decreases-loop : tie.decreases-loop
 decreases-loop memory₀ place bytes i₀ memory i = length memory - i
 
-pub lay-spec : {M : Type 1} → statement M
-lay-spec =
+pub lay_spec : {M : Type 1} → statement M
+lay_spec =
     tie.close
     (tie.spec
     invariant-loop

@@ -12,8 +12,8 @@ invariant-loop memory₀ place bytes i₀ memory i = (i ≤ length memory) × (l
 abbrev decreases-loop : tie.decreases-loop
 decreases-loop memory₀ place bytes i₀ memory i = length memory - i
 
-pub lay-words-spec : {M : Type 1} → statement M
-lay-words-spec =
+pub lay_words_spec : {M : Type 1} → statement M
+lay_words_spec =
     tie.close
     (tie.spec
     invariant-loop

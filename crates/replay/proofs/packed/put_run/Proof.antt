@@ -11,8 +11,8 @@ invariant-loop room₀ at byte count to₀ left₀ room to left = length room �
 abbrev decreases-loop : tie.decreases-loop
 decreases-loop room₀ at byte count to₀ left₀ room to left = left
 
-pub put-run-spec : {M : Type 1} → statement M
-put-run-spec =
+pub put_run_spec : {M : Type 1} → statement M
+put_run_spec =
     tie.close
     (tie.spec
     invariant-loop

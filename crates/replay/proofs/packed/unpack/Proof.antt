@@ -11,8 +11,8 @@ invariant-loop room₀ from at₀ unpacked₀ room at unpacked = length room ≡
 abbrev decreases-loop : tie.decreases-loop
 decreases-loop room₀ from at₀ unpacked₀ room at unpacked = length room - at
 
-pub unpack-spec : {M : Type 1} → statement M
-unpack-spec =
+pub unpack_spec : {M : Type 1} → statement M
+unpack_spec =
     tie.close
     (tie.spec
     invariant-loop

@@ -9,8 +9,8 @@ invariant-loop values bytes columns count i₀ i = i ≤ count
 abbrev decreases-loop : tie.decreases-loop
 decreases-loop values bytes columns count i₀ i = count - i
 
-pub show-values-spec : {M : Type 1} → statement M
-show-values-spec =
+pub show_values_spec : {M : Type 1} → statement M
+show_values_spec =
     tie.close
     (tie.spec
     invariant-loop

@@ -8,15 +8,15 @@ use Rattle.runs.proofs.run.push_values.Tie as tie
 told : (c : tie.Start) → (let a = c.args in ValuesTold a.p a.added (length a.xy.now) (length a.z.now) (length a.m.now) (length a.t.now) (length a.tm.now))
 told c = values-told _ _ _ _ _ _ _ c.requires
 
-pub push-values-spec : {M : Type 1} → statement M
-push-values-spec =
+pub push_values_spec : {M : Type 1} → statement M
+push_values_spec =
     tie.close
     (tie.spec
-    (λ c κs. (told c.before.before.before.before.before.before).in-xy)
-    (λ c κs. (told c.before.before.before.before.before.before.before.before.before.before).in-z)
-    (λ c κs. (told c.before.before.before.before.before.before.before.before.before.before.before.before.before.before).in-m)
-    (λ c κs. (told c.before.before.before.before.before.before.before.before.before.before.before.before.before.before.before.before.before.before).in-t)
-    (λ c κs. (told c.before.before.before.before.before.before.before.before.before.before.before.before.before.before.before.before.before.before.before.before.before.before).in-tm)
+    (λ c κs. (told c.before.before.before.before.before.before).in_xy)
+    (λ c κs. (told c.before.before.before.before.before.before.before.before.before.before).in_z)
+    (λ c κs. (told c.before.before.before.before.before.before.before.before.before.before.before.before.before.before).in_m)
+    (λ c κs. (told c.before.before.before.before.before.before.before.before.before.before.before.before.before.before.before.before.before.before).in_t)
+    (λ c κs. (told c.before.before.before.before.before.before.before.before.before.before.before.before.before.before.before.before.before.before.before.before.before.before).in_tm)
     (λ c κs. (told c.before.before.before.before.before.before.before.before.before.before.before.before.before.before.before.before.before.before.before.before.before.before.before.before.before).fits)
     (λ c. search (rules, c.before.before.before.before.before.before.before.before.before.before.before.before.before.before.before.before.before.before.before.push-pair.auto))
     (λ c. search rules)

@@ -3,8 +3,8 @@ use Rattle.laws.specs.Branch.{is_true, is_false}
 use Rattle.runs.proofs.run.values_room.Statement.{statement}
 use Rattle.runs.proofs.run.values_room.Tie as tie
 
-pub values-room-spec : {M : Type 1} → statement M
-values-room-spec =
+pub values_room_spec : {M : Type 1} → statement M
+values_room_spec =
     tie.close
     (tie.spec
     (λ c κs. search rules)

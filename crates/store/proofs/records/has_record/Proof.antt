@@ -1,7 +1,7 @@
 use mathlib.Core.Path.{refl}
-use Rattle.store.specs.Records.{hasRecord}
+use Rattle.store.specs.Records.{has_record}
 use Rattle.store.proofs.records.has_record.Statement.{statement}
 use Rattle.store.proofs.records.has_record.Tie as tie
 
-pub has-record-spec : {M : Type 1} → statement M
-has-record-spec = tie.close (tie.spec (λ c. unfold hasRecord in refl))
+pub has_record_spec : {M : Type 1} → statement M
+has_record_spec = tie.close (tie.spec (λ c. unfold has_record in refl))

@@ -1,15 +1,15 @@
 use Prim.Native.Nat.{◌*◌, ◌+◌}
 use native.Mathlib.Omega.{arith}
 use borrow.Author.Rules.{rules}
-use Rattle.geometry_layout.specs.GeometryLaws.{geometry-length}
-use Rattle.geometry_layout.specs.Geometry.{geometryBytes}
-use Rattle.laws.specs.Runs.{lent-part}
-use Rattle.store.specs.Records.{putRecord}
+use Rattle.geometry_layout.specs.GeometryLaws.{geometry_length}
+use Rattle.geometry_layout.specs.Geometry.{geometry_bytes}
+use Rattle.laws.specs.Runs.{lent_part}
+use Rattle.store.specs.Records.{put_record}
 use Rattle.store.proofs.records.put_record.Statement.{statement}
 use Rattle.store.proofs.records.put_record.Tie as tie
 
-pub put-record-spec : {M : Type 1} → statement M
-put-record-spec =
+pub put_record_spec : {M : Type 1} → statement M
+put_record_spec =
     tie.close
     (tie.spec
     (λ c. search rules)
@@ -19,6 +19,6 @@ put-record-spec =
     (λ c. search rules)
     (λ c κs. search rules)
     (λ c. search rules)
-    (λ c. unfold putRecord in let a = c.before.before.before.before.before.args in
+    (λ c. unfold put_record in let a = c.before.before.before.before.before.args in
     rw c.before.before.put-geometry.ensures
-    (lent-part a.table.now (geometryBytes a.g) (64 * a.n) (omega (arith, geometry-length a.g)) (64 * a.n + 64) (omega (arith, geometry-length a.g)))))
+    (lent_part a.table.now (geometry_bytes a.g) (64 * a.n) (omega (arith, geometry_length a.g)) (64 * a.n + 64) (omega (arith, geometry_length a.g)))))

@@ -4,8 +4,8 @@ use Rattle.laws.specs.Bytes.{four-at}
 use Rattle.wkb.proofs.order.u32_big_at.Statement.{statement}
 use Rattle.wkb.proofs.order.u32_big_at.Tie as tie
 
-pub u32-big-at-spec : {M : Type 1} → statement M
-u32-big-at-spec =
+pub u32_big_at_spec : {M : Type 1} → statement M
+u32_big_at_spec =
     tie.close
     (tie.spec
     (λ c. search rules)

@@ -1,16 +1,16 @@
 use mathlib.Core.Path.{sym, ◌∙◌}
 use borrow.Author.Tests.{not-true, not-false}
 use borrow.Author.Rules.{rules}
-use Rattle.wkb_events.specs.Told.{is-event, no-event, told-by}
+use Rattle.wkb_events.specs.Told.{is-event, no_event, told-by}
 use Rattle.wkb_events.proofs.told.hear.Statement.{statement}
 use Rattle.wkb_events.proofs.told.hear.Tie as tie
 
-pub hear-spec : {M : Type 1} → statement M
-hear-spec =
+pub hear_spec : {M : Type 1} → statement M
+hear_spec =
     tie.close
     (tie.spec
     (λ c κs. search rules)
-    (λ c. let h = c.before.is-event in no-event c.before.before.before.args.bytes.now (sym h.ensures ∙ not-true h.result c.if1.true))
+    (λ c. let h = c.before.is-event in no_event c.before.before.before.args.bytes.now (sym h.ensures ∙ not-true h.result c.if1.true))
     (λ c κs. search rules)
     (λ c.
     let a = c.before.before.before.before.args in

@@ -5,10 +5,10 @@ use native.Mathlib.Omega.{arith}
 use lib.ListN.{length}
 use borrow.Author.Tests.{not-false}
 use borrow.Author.Rules.{rules}
-use Rattle.log.specs.Log.{recordOf}
-use Rattle.wkb_judge.specs.Rows.{part-long}
+use Rattle.log.specs.Log.{record_of}
+use Rattle.wkb_judge.specs.Rows.{part_long}
 use Rattle.wkb_events.specs.Told.{Behind}
-use Rattle.wkb_judge.specs.Inside.{PairsFrom, Inside, no_pairs, one-more-pair, none_inside, pair-behind}
+use Rattle.wkb_judge.specs.Inside.{PairsFrom, Inside, no_pairs, one_more_pair, none_inside, pair_behind}
 use Rattle.wkb_events.specs.declared.told.Told.TheVariants.{Pair}
 use Rattle.wkb_judge.proofs.pairs.pairs_inside.Statement.{statement}
 use Rattle.wkb_judge.proofs.pairs.pairs_inside.Tie as tie
@@ -36,13 +36,13 @@ found l =
     let p = l.before.before.before.takes-pair in
     record {
       each = l.loop.invariant.0;
-      takes = λ some g is x y x_Fits y-fits. sym (p.ensures g is x y x_Fits y-fits) ∙ not-false p.result l.before.before.if1.false;
+      takes = λ some g is x y x_Fits y_fits. sym (p.ensures g is x y x_Fits y_fits) ∙ not-false p.result l.before.before.if1.false;
       fits = omega (arith, l.loop.invariant.2, l.before.lesser.ensures.1);
       last = omega (arith, l.loop.invariant.2, l.before.lesser.ensures.0, s.requires);
     }
 
-pub pairs-inside-spec : {M : Type 1} → statement M
-pairs-inside-spec =
+pub pairs_inside_spec : {M : Type 1} → statement M
+pairs_inside_spec =
     tie.close
     (tie.spec
     invariant-loop
@@ -57,7 +57,7 @@ pairs-inside-spec =
     (λ c. omega arith)
     (λ c. omega arith)
     (λ c. omega (arith, less c))
-    (λ c κs. let t = c.before in part-long (events t) t.before.loop.next (less t))
+    (λ c κs. let t = c.before in part_long (events t) t.before.loop.next (less t))
     (λ c. omega (arith, less c.before.before.before))
     (λ c. omega (arith, c.before.before.before.loop-test.true))
     (λ c. omega (arith, c.before.before.before.loop-test.true))
@@ -66,7 +66,7 @@ pairs-inside-spec =
     let l = t.before.loop in
     let s = t.before.before.before.before.before.before in
     let at : l.next ≡ s.args.from + l.idx = l.invariant.1 in
-    let b = pair-behind (events t) s.args.feature l.next l.idx (c.before.is-pair.ensures (not-false c.before.is-pair.result c.if2.false)) in
-    (one-more-pair (events t) s.args.from s.args.feature l.idx l.invariant.0 (subst (λ (m : ℕ). Behind (recordOf (events t) m) s.args.feature (Pair l.idx)) at b), omega (arith, at), omega (arith, t.loop-test.true)))
+    let b = pair_behind (events t) s.args.feature l.next l.idx (c.before.is-pair.ensures (not-false c.before.is-pair.result c.if2.false)) in
+    (one_more_pair (events t) s.args.from s.args.feature l.idx l.invariant.0 (subst (λ (m : ℕ). Behind (record_of (events t) m) s.args.feature (Pair l.idx)) at b), omega (arith, at), omega (arith, t.loop-test.true)))
     (λ c. found c.before)
     (λ c. found c.before.before.before.before))

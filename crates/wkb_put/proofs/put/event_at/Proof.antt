@@ -10,8 +10,8 @@ use Rattle.wkb_put.proofs.put.event_at.Reads as reads
 use Rattle.wkb_put.proofs.put.event_at.Lts as lts
 use Rattle.log.proofs.event_in.Reads as event-in-reads
 
-pub event-at-spec : {M : Type 1} → statement M
-event-at-spec =
+pub event_at_spec : {M : Type 1} → statement M
+event_at_spec =
     tie.close
     (tie.spec
     (λ c. search rules)

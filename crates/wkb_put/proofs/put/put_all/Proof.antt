@@ -3,8 +3,8 @@ use Prim.Native.Nat.{◌+◌, ◌-◌}
 use native.Mathlib.Omega.{arith}
 use lib.ListN.{length}
 use borrow.Author.Rules.{rules}
-use Rattle.wkb_put.specs.Put.{around_of, spelledOf}
-use Rattle.wkb_put.specs.PutLeft.{Left, began, ended, event-room, event-on, pairs-room, pairs-on}
+use Rattle.wkb_put.specs.Put.{around_of, spelled_of}
+use Rattle.wkb_put.specs.PutLeft.{Left, began, ended, event-room, event_on, pairs-room, pairs_on_lem}
 use Rattle.wkb_put.proofs.put.put_all.Statement.{statement}
 use Rattle.wkb_put.proofs.put.put_all.Tie as tie
 
@@ -26,10 +26,10 @@ laid c =
     let a = c.before.before.before.before.before.before.before.before.before.before.args in
     let l = c.before.before.before.before.before.before.before.loop in
     let put = c.before.before.before.put-event in
-    (put.auto.0 ∙ l.invariant.0, event-on a.events.now a.out.now (around_of l.around) l.out l.next l.at c.before.before.before.before.before.event-at.result c.before.before.before.before.before.before.loop-test.true l.invariant.1 c.before.before.before.before.before.event-at.ensures c.later-than.ensures put.ensures.0 put.ensures.1)
+    (put.auto.0 ∙ l.invariant.0, event_on a.events.now a.out.now (around_of l.around) l.out l.next l.at c.before.before.before.before.before.event-at.result c.before.before.before.before.before.before.loop-test.true l.invariant.1 c.before.before.before.before.before.event-at.ensures c.later-than.ensures put.ensures.0 put.ensures.1)
 
-pub put-all-spec : {M : Type 1} → statement M
-put-all-spec =
+pub put_all_spec : {M : Type 1} → statement M
+put_all_spec =
     tie.close
     (tie.spec
     invariant-loop
@@ -43,6 +43,6 @@ put-all-spec =
     (λ c. laid c.before)
     (λ c κs. let s = c.before.before.before.before.before.before.before.before.before.before.before.before in let a = s.args in let h = laid c.before.before in let put = c.before.before.before.before.before.put-event in (h.1.heard, omega (arith, pairs-room a.events.now a.out.now (around_of c.before.before.later-than.result) put.new.0 (c.before.before.before.before.before.before.before.before.before.loop.next + 1) put.result c.before.if1.false h.1, s.requires.1, h.0)))
     (λ c. omega (arith, c.before.before.put-pairs.ensures.past, c.before.before.before.before.before.before.before.before.before.before.before.loop-test.true))
-    (λ c. let a = c.before.before.before.before.before.before.before.before.before.before.before.before.before.before.before.args in let h = laid c.before.before.before.before.before in let put = c.before.before.before.before.before.before.before.before.put-event in (c.before.before.put-pairs.auto.1.1.0 ∙ h.0, pairs-on a.events.now a.out.now (around_of c.before.before.before.before.before.later-than.result) put.new.0 (c.before.before.before.before.before.before.before.before.before.before.before.before.loop.next + 1) put.result c.before.before.before.before.if1.false h.1 c.before.before.put-pairs.ensures))
+    (λ c. let a = c.before.before.before.before.before.before.before.before.before.before.before.before.before.before.before.args in let h = laid c.before.before.before.before.before in let put = c.before.before.before.before.before.before.before.before.put-event in (c.before.before.put-pairs.auto.1.1.0 ∙ h.0, pairs_on_lem a.events.now a.out.now (around_of c.before.before.before.before.before.later-than.result) put.new.0 (c.before.before.before.before.before.before.before.before.before.before.before.before.loop.next + 1) put.result c.before.before.before.before.if1.false h.1 c.before.before.put-pairs.ensures))
     (λ c. search rules)
     (λ c. let a = c.before.before.before.before.args in ended a.events.now a.out.now c.loop-test.false c.before.loop.invariant.1))

@@ -15,8 +15,8 @@ use Rattle.wkb_put.proofs.put.Around.is_ring.Reads as is-ring-reads
 use Rattle.wkb_put.proofs.put.put_counted.Reads as put-counted-reads
 use Rattle.wkb_put.proofs.put.put_head.Reads as put-head-reads
 
-pub put-begin-spec : {M : Type 1} → statement M
-put-begin-spec =
+pub put_begin_spec : {M : Type 1} → statement M
+put_begin_spec =
     tie.close
     (tie.spec
     (λ c κs. let s = c.before.before.before.before in let a = s.args in let k = around_of a.around in omega (arith, ap length (laid-head k a.e s.requires.0 c.before.if1.true), s.requires.1))

@@ -15,8 +15,8 @@ use Rattle.wkb_put.proofs.put.put_begin.Reads as put-begin-reads
 use Rattle.wkb_put.proofs.put.put_pair.Reads as put-pair-reads
 use Rattle.wkb_put.proofs.put.put_point.Reads as put-point-reads
 
-pub put-event-spec : {M : Type 1} → statement M
-put-event-spec =
+pub put_event_spec : {M : Type 1} → statement M
+put_event_spec =
     tie.close
     (tie.spec
     (λ c κs. search rules)

@@ -3,8 +3,8 @@ use Prim.Native.Nat.{◌-◌}
 use native.Mathlib.Omega.{arith}
 use lib.ListN.{length}
 use borrow.Author.Rules.{rules}
-use Rattle.wkb_put.specs.Put.{eventsFrom, runBytes}
-use Rattle.wkb_put.specs.PutLeft.{RunLeft, run-began, pair-room, run_on, run-stopped, run-ended}
+use Rattle.wkb_put.specs.Put.{events_from, run_bytes}
+use Rattle.wkb_put.specs.PutLeft.{RunLeft, run_began, pair-room, run_on, run-stopped, run_ended}
 use Rattle.wkb_put.proofs.put.put_pairs.Statement.{statement}
 use Rattle.wkb_put.proofs.put.put_pairs.Tie as tie
 
@@ -14,13 +14,13 @@ invariant-loop events from out₀ at records next₀ end₀ out next end = (leng
 abbrev decreases-loop : tie.decreases-loop
 decreases-loop events from out₀ at records next₀ end₀ out next end = records - next
 
-pub put-pairs-spec : {M : Type 1} → statement M
-put-pairs-spec =
+pub put_pairs_spec : {M : Type 1} → statement M
+put_pairs_spec =
     tie.close
     (tie.spec
     invariant-loop
     decreases-loop
-    (λ c. let s = c.before.before in let a = s.args in (refl, run-began a.events.now a.from a.out.now a.at s.requires.0))
+    (λ c. let s = c.before.before in let a = s.args in (refl, run_began a.events.now a.from a.out.now a.at s.requires.0))
     (λ c κs. search rules)
     (λ c κs. let s = c.before.before.before.before.before.before.before.before in let a = s.args in let l = c.before.before.before.before.before.loop in omega (arith, pair-room a.events.now a.from a.out.now a.at l.out l.next l.end c.before.before.before.event-at.result c.before.before.before.before.loop-test.true l.invariant.1 c.before.before.before.event-at.ensures c.before.if1.false, s.requires.1, l.invariant.0))
     (λ c. search rules)
@@ -28,6 +28,6 @@ put-pairs-spec =
     (λ c. search rules)
     (λ c. let a = c.before.before.before.before.before.before.before.before.before.before.before.args in let l = c.before.before.before.before.before.before.before.before.loop in (search rules, run_on a.events.now a.from a.out.now a.at l.out l.next l.end c.before.before.before.before.before.before.event-at.result c.before.before.before.before.before.before.before.loop-test.true l.invariant.1 c.before.before.before.before.before.before.event-at.ensures c.before.before.before.before.if1.false c.before.before.put-pair.ensures))
     (λ c. search rules)
-    (λ c. let a = c.before.before.before.before.args in run-ended a.events.now a.from a.out.now a.at c.loop-test.false c.before.loop.invariant.1)
+    (λ c. let a = c.before.before.before.before.args in run_ended a.events.now a.from a.out.now a.at c.loop-test.false c.before.loop.invariant.1)
     (λ c. search rules)
     (λ c. let a = c.before.before.before.before.before.before.before.args in let l = c.before.before.before.before.loop in run-stopped a.events.now a.from a.out.now a.at l.out l.next l.end c.before.before.event-at.result c.before.before.before.loop-test.true l.invariant.1 c.before.before.event-at.ensures c.if1.true))

@@ -1,6 +1,6 @@
 use mathlib.Core.Bool.{false}
-use Rattle.wkb_reader.specs.Reading.{lineR, several}
-use Rattle.wkb_reader.specs.Onward.{Left, began, went_on, broke-off, ended}
+use Rattle.wkb_reader.specs.Reading.{line_r, several}
+use Rattle.wkb_reader.specs.Onward.{Left, began, went_on, broke_off, ended}
 use lib.ListN.{length}
 use Prim.Native.Nat.{◌-◌, ◌≤◌}
 use mathlib.Core.Path.{◌≡◌, refl}
@@ -11,23 +11,23 @@ use Rattle.wkb_reader.proofs.lines.read_rings.Tie as tie
 
 abbrev invariant-loop : tie.invariant-loop
 invariant-loop log₀ feature count bytes at order size said₀ from₀ i₀ log said from i =
-    (from ≤ length bytes) × (length log ≡ length log₀) × Left feature bytes (several (lineR order false) size 0) at log₀ count (several (lineR order false) (size - i) i) from log said
+    (from ≤ length bytes) × (length log ≡ length log₀) × Left feature bytes (several (line_r order false) size 0) at log₀ count (several (line_r order false) (size - i) i) from log said
 
 abbrev decreases-loop : tie.decreases-loop
 decreases-loop log₀ feature count bytes at order size said₀ from₀ i₀ log said from i = size - i
 
-pub read-rings-spec : {M : Type 1} → statement M
-read-rings-spec =
+pub read_rings_spec : {M : Type 1} → statement M
+read_rings_spec =
     tie.close
     (tie.spec
     invariant-loop
     decreases-loop
-    (λ c. let a = c.before.before.args in (c.before.before.requires, refl, rw sub-zero (began a.feature a.bytes.now (several (lineR a.order false) a.size 0) a.at a.log.now a.count)))
+    (λ c. let a = c.before.before.args in (c.before.before.requires, refl, rw sub-zero (began a.feature a.bytes.now (several (line_r a.order false) a.size 0) a.at a.log.now a.count)))
     (λ c κs. c.before.before.loop.invariant.0)
     (λ c. search rules)
-    (λ c. let a = c.before.before.before.before.before.before.before.before.before.before.args in let l = c.before.before.before.before.before.before.before.loop in (broke-off a.feature a.bytes.now (lineR a.order false) _ c.before.before.before.before.before.before.loop-test.true l.invariant.2 c.before.before.before.before.read-line.ensures.0 c.if1.true, c.before.before.before.before.read-line.ensures.1))
+    (λ c. let a = c.before.before.before.before.before.before.before.before.before.before.args in let l = c.before.before.before.before.before.before.before.loop in (broke_off a.feature a.bytes.now (line_r a.order false) _ c.before.before.before.before.before.before.loop-test.true l.invariant.2 c.before.before.before.before.read-line.ensures.0 c.if1.true, c.before.before.before.before.read-line.ensures.1))
     (λ c. search rules)
     (λ c. search rules)
-    (λ c. let a = c.before.before.before.before.before.before.before.before.before.before.args in let l = c.before.before.before.before.before.before.before.loop in (c.before.before.before.before.read-line.ensures.1, search rules, went_on a.feature a.bytes.now (lineR a.order false) c.before.before.before.before.before.before.loop-test.true l.invariant.2 c.before.before.before.before.read-line.ensures.0 c.if1.false))
+    (λ c. let a = c.before.before.before.before.before.before.before.before.before.before.args in let l = c.before.before.before.before.before.before.before.loop in (c.before.before.before.before.read-line.ensures.1, search rules, went_on a.feature a.bytes.now (line_r a.order false) c.before.before.before.before.before.before.loop-test.true l.invariant.2 c.before.before.before.before.read-line.ensures.0 c.if1.false))
     (λ c. search rules)
-    (λ c. let a = c.before.before.before.before.args in let l = c.before.loop in (ended a.feature a.bytes.now (lineR a.order false) c.loop-test.false l.invariant.2, l.invariant.0)))
+    (λ c. let a = c.before.before.before.before.args in let l = c.before.loop in (ended a.feature a.bytes.now (line_r a.order false) c.loop-test.false l.invariant.2, l.invariant.0)))

@@ -1,5 +1,5 @@
 use Rattle.wkb_reader.specs.Reading.{member_r, several}
-use Rattle.wkb_reader.specs.Onward.{Left, began, went_on, broke-off, ended}
+use Rattle.wkb_reader.specs.Onward.{Left, began, went_on, broke_off, ended}
 use lib.ListN.{length}
 use Prim.Native.Nat.{◌-◌, ◌≤◌}
 use mathlib.Core.Path.{◌≡◌, refl}
@@ -15,8 +15,8 @@ invariant-loop log₀ feature count bytes at single size left said₀ from₀ i�
 abbrev decreases-loop : tie.decreases-loop
 decreases-loop log₀ feature count bytes at single size left said₀ from₀ i₀ log said from i = size - i
 
-pub read-members-spec : {M : Type 1} → statement M
-read-members-spec =
+pub read_members_spec : {M : Type 1} → statement M
+read_members_spec =
     tie.close
     (tie.spec
     invariant-loop
@@ -24,7 +24,7 @@ read-members-spec =
     (λ c. let a = c.before.before.args in (c.before.before.requires, refl, rw sub-zero (began a.feature a.bytes.now (several (member_r a.left a.single) a.size 0) a.at a.log.now a.count)))
     (λ c κs. c.before.before.loop.invariant.0)
     (λ c. search rules)
-    (λ c. let a = c.before.before.before.before.before.before.before.before.before.before.args in let l = c.before.before.before.before.before.before.before.loop in (broke-off a.feature a.bytes.now (member_r a.left a.single) _ c.before.before.before.before.before.before.loop-test.true l.invariant.2 c.before.before.before.before.read-member.ensures.0 c.if1.true, c.before.before.before.before.read-member.ensures.1))
+    (λ c. let a = c.before.before.before.before.before.before.before.before.before.before.args in let l = c.before.before.before.before.before.before.before.loop in (broke_off a.feature a.bytes.now (member_r a.left a.single) _ c.before.before.before.before.before.before.loop-test.true l.invariant.2 c.before.before.before.before.read-member.ensures.0 c.if1.true, c.before.before.before.before.read-member.ensures.1))
     (λ c. search rules)
     (λ c. search rules)
     (λ c. let a = c.before.before.before.before.before.before.before.before.before.before.args in let l = c.before.before.before.before.before.before.before.loop in (c.before.before.before.before.read-member.ensures.1, search rules, went_on a.feature a.bytes.now (member_r a.left a.single) c.before.before.before.before.before.before.loop-test.true l.invariant.2 c.before.before.before.before.read-member.ensures.0 c.if1.false))

@@ -4,8 +4,8 @@ use borrow.Author.Rules.{rules}
 use Rattle.wkb_reader.proofs.pairs.read_begin.Statement.{statement}
 use Rattle.wkb_reader.proofs.pairs.read_begin.Tie as tie
 
-pub read-begin-spec : {M : Type 1} → statement M
-read-begin-spec =
+pub read_begin_spec : {M : Type 1} → statement M
+read_begin_spec =
     tie.close
     (tie.spec
     (λ c. search rules)

@@ -4,8 +4,8 @@ use borrow.Author.Rules.{rules}
 use Rattle.wkb_reader.proofs.pairs.read_pair.Statement.{statement}
 use Rattle.wkb_reader.proofs.pairs.read_pair.Tie as tie
 
-pub read-pair-spec : {M : Type 1} → statement M
-read-pair-spec =
+pub read_pair_spec : {M : Type 1} → statement M
+read_pair_spec =
     tie.close
     (tie.spec
     (λ c. search rules)

@@ -1,17 +1,17 @@
-use Rattle.wkb_reader.specs.Parts.{no-point, point-read}
+use Rattle.wkb_reader.specs.Parts.{no_point, point-read}
 use native.Mathlib.Omega.{arith}
 use borrow.Author.Rules.{rules}
 use Rattle.wkb_reader.proofs.simple.read_point.Statement.{statement}
 use Rattle.wkb_reader.proofs.simple.read_point.Tie as tie
 
-pub read-point-spec : {M : Type 1} → statement M
-read-point-spec =
+pub read_point_spec : {M : Type 1} → statement M
+read_point_spec =
     tie.close
     (tie.spec
     (λ c κs. search rules)
     (λ c κs. search rules)
     (λ c. search rules)
-    (λ c. let a = c.before.before.before.before.before.before.before.before.before.args in (no-point a.feature a.bytes.now a.order a.idx c.before.before.before.before.before.begin.ensures c.before.before.before.before.say.ensures c.if1.true, c.before.before.before.before.before.before.before.before.before.requires))
+    (λ c. let a = c.before.before.before.before.before.before.before.before.before.args in (no_point a.feature a.bytes.now a.order a.idx c.before.before.before.before.before.begin.ensures c.before.before.before.before.say.ensures c.if1.true, c.before.before.before.before.before.before.before.before.before.requires))
     (λ c κs. search rules)
     (λ c κs. search rules)
     (λ c. search rules)

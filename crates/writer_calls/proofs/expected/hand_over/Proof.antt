@@ -9,8 +9,8 @@ invariant-loop case state₀ k₀ state k = (1 ≤ k) × (k ≤ 16)
 abbrev decreases-loop : tie.decreases-loop
 decreases-loop case state₀ k₀ state k = 16 - k
 
-pub hand-over-spec : {M : Type 1} → statement M
-hand-over-spec =
+pub hand_over_spec : {M : Type 1} → statement M
+hand_over_spec =
     tie.close
     (tie.spec
     invariant-loop

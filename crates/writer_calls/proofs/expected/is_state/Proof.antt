@@ -9,8 +9,8 @@ invariant-loop case state k₀ k = (1 ≤ k) × (k ≤ 16)
 abbrev decreases-loop : tie.decreases-loop
 decreases-loop case state k₀ k = 16 - k
 
-pub is-state-spec : {M : Type 1} → statement M
-is-state-spec =
+pub is_state_spec : {M : Type 1} → statement M
+is_state_spec =
     tie.close
     (tie.spec
     invariant-loop

@@ -10,8 +10,8 @@ invariant-loop sum bytes mix₀ i₀ mix i = i ≤ length bytes
 abbrev decreases-loop : tie.decreases-loop
 decreases-loop sum bytes mix₀ i₀ mix i = length bytes - i
 
-pub with-bytes-spec : {M : Type 1} → statement M
-with-bytes-spec =
+pub with_bytes_spec : {M : Type 1} → statement M
+with_bytes_spec =
     tie.close
     (tie.spec
     invariant-loop

@@ -10,8 +10,8 @@ invariant-loop sum words mix₀ i₀ mix i = i ≤ length words
 abbrev decreases-loop : tie.decreases-loop
 decreases-loop sum words mix₀ i₀ mix i = length words - i
 
-pub with-ends-spec : {M : Type 1} → statement M
-with-ends-spec =
+pub with_ends_spec : {M : Type 1} → statement M
+with_ends_spec =
     tie.close
     (tie.spec
     invariant-loop

@@ -5,5 +5,5 @@ use Rattle.writing.specs.Calls.{renewed as spec-renewed}
 use Rattle.writing.proofs.decide.renewed.Statement.{statement}
 use Rattle.writing.proofs.decide.renewed.Tie as tie
 
-pub renewed-spec : {M : Type 1} → statement M
-renewed-spec = tie.close (tie.spec (λ c κs. search rules) (λ c. unfold spec-renewed in λ i. record { typing = c.before.before.args.s.typing; waiting = false; parts = 0; properties = 0; feature = Open; pending = c.fronted-all.ensures i }))
+pub renewed_spec : {M : Type 1} → statement M
+renewed_spec = tie.close (tie.spec (λ c κs. search rules) (λ c. unfold spec-renewed in λ i. record { typing = c.before.before.args.s.typing; waiting = false; parts = 0; properties = 0; feature = Open; pending = c.fronted-all.ensures i }))
