@@ -91,7 +91,13 @@ def table(crates):
 
 
 def turned(text, rows):
-    return TOKEN.sub(lambda m: rows[m.start() > 0 and text[m.start() - 1] == "."].get(m[0], m[0]), text)
+    """Behind a dot stand fields and constructors, but behind the short name of a module what the module has."""
+
+    def one(m):
+        behind = m.start() > 0 and text[m.start() - 1] == "." and not re.search(r"(?<![\w.])[A-Z]\w*\.$", text[: m.start()])
+        return rows[behind].get(m[0], m[0])
+
+    return TOKEN.sub(one, text)
 
 
 def spans(text, rows):
@@ -155,6 +161,15 @@ def edit(text, rows):
     return "\n".join(out)
 
 
+def own(rows, text):
+    """The tables without what the file imports from a library."""
+    lent = set()
+    for m in re.finditer(r"\buse ([^\s;{]+)\.\{([^}]*)\}", text):
+        if re.match(r"Rattle\.(std|core|io)\b", m[1]) or not m[1].startswith("Rattle."):
+            lent |= {it.strip().split(" as ")[0] for it in m[2].split(",")}
+    return tuple({a: b for a, b in table.items() if a not in lent} for table in rows)
+
+
 def main():
     root = sys.argv[1] if len(sys.argv) > 1 else os.path.join(os.path.dirname(os.path.abspath(__file__)), "..")
     crates = os.path.join(root, "crates")
@@ -162,7 +177,7 @@ def main():
     for ending, turn in ((".antt", antt), (".rt", rattle), (".edit", edit)):
         for path in files(crates, ending):
             old = read(path)
-            new = turn(old, rows)
+            new = turn(old, own(rows, old))
             if new != old:
                 write(path, new)
     for path in files(root, ".md"):

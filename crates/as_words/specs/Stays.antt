@@ -10,7 +10,7 @@ use Rattle.kinds.specs.declared.event.Event.{Event}
 use Rattle.kinds.specs.declared.geometry.Lent.{Lent}
 use Rattle.store.specs.Lists.{lent_of}
 use Rattle.store.specs.Records.{records_lent}
-use Rattle.log.specs.Log.{heard, feature_in, record_of, records_in}
+use Rattle.event_log.specs.Log.{heard, feature_in, record_of, records_in}
 use Rattle.asking.specs.declared.typing.Typing.{Typing}
 use Rattle.asking.specs.declared.set_type.Typed.{Typed}
 use Rattle.asking.specs.declared.set_type.Typed.TheVariants.{Set, Mixed}

@@ -10,7 +10,7 @@ use kinds::event::{Event, bit_set};
 use kinds::flags::Flags;
 
 // The pools that an event adds words to: two to xy, one to each other.
-#[derive(Drop)]
+#[derive(Clone, Copy)]
 pub struct Added {
     pub xy: bool,
     pub ends: bool,
@@ -32,7 +32,7 @@ impl Added {
 }
 
 // What an event asks for: the typing after it, the words that it adds, and whether it then finishes a part.
-#[derive(Drop)]
+#[derive(Clone, Copy)]
 pub struct Ask {
     pub typed: Typed,
     pub added: Added,

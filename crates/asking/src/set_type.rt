@@ -6,7 +6,7 @@ use crate::typing::Typing;
 use kinds::geometry_type;
 
 // A type that was set, or that does not go with the declared one.
-#[derive(Drop)]
+#[derive(Clone, Copy)]
 pub enum Typed {
     Set(Typing),
     Mixed,

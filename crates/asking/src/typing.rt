@@ -2,7 +2,7 @@
 ghost use Rattle.std.specs.Prelude.{◌≡◌};
 ghost use Rattle.asking.specs.SetType.{with_declared, with_current, with_mode};
 
-#[derive(Drop)]
+#[derive(Clone, Copy)]
 pub struct Typing {
     pub declared: u8,
     pub detect: bool,

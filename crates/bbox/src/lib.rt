@@ -8,7 +8,7 @@ ghost use Rattle.bbox.specs.Box.{least, greatest, moved, beginning, double, wide
 
 pub use edges::edges_of;
 
-#[derive(Drop)]
+#[derive(Clone, Copy)]
 pub struct Box {
     pub least_x: f64,
     pub least_y: f64,

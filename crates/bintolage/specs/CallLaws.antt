@@ -9,8 +9,8 @@ use Rattle.kinds.specs.Event.{WellFormed, Malformed, BareOf}
 use Rattle.kinds.specs.declared.event.Bare.{Bare}
 use Rattle.kinds.specs.declared.event.Bare.TheVariants.{Pair as BarePair}
 use Rattle.kinds.specs.declared.event.Heard.TheVariants.{Pair}
-use Rattle.log.specs.Log.{heard}
-use Rattle.log.specs.LogLaws.{HeardPair, not_whole, behind}
+use Rattle.event_log.specs.Log.{heard}
+use Rattle.event_log.specs.LogLaws.{HeardPair, not_whole, behind}
 use Rattle.runs.specs.declared.took.Took.{Took}
 use Rattle.writing.specs.declared.state.State.{State}
 use Rattle.writing.specs.declared.state.Wrote.{Wrote}

@@ -2,10 +2,10 @@
 ghost use Rattle.std.specs.Prelude.{◌≡◌, length};
 ghost use Rattle.laws.specs.Cut.{Said};
 ghost use Rattle.store.specs.Lists.{pools_of, record_with};
-ghost use Rattle.log.specs.Log.{events as eventRecords};
+ghost use Rattle.event_log.specs.Log.{events as eventRecords};
 ghost use Rattle.property_value.specs.Value.{placed};
 ghost use Rattle.property_reader.specs.Reading.{reading, bad_in, stopped as stopping};
-ghost use Rattle.log.specs.Values.{values};
+ghost use Rattle.event_log.specs.Values.{values};
 ghost use Rattle.property_writer.specs.Writing.{bytes_after};
 ghost use Rattle.reader.specs.Reading.{read_s};
 ghost use Rattle.wkb_reader.specs.Reading.{reading_r};
@@ -54,9 +54,9 @@ pub extern "C" fn bintolage_event(
 {
     let before = *state;
     // A pair by itself is the commonest call, and with a keep of its own the state's words are packed in registers.
-    let bare = log::hear_bare(event);
+    let bare = event_log::hear_bare(event);
     if let Bare::Pair { x, y } = bare {
-        let n = log::feature_in(event);
+        let n = event_log::feature_in(event);
         let wrote = writer::pair(state_of(before), n, x, y, table, xy, ends, z, m, t, tm);
         return keep(state, wrote);
     }

@@ -8,14 +8,14 @@ use Rattle.geometry_layout.specs.Geometry.{geometry_of, sound_geometry, read_geo
 use Rattle.kinds.specs.Event.{begin_e, end_e, xy_e}
 use Rattle.kinds.specs.declared.event.Event.{Event}
 use Rattle.store.specs.Lists.{Rec, Pools, pools_of, record_with}
-use Rattle.log.specs.Log.{events}
+use Rattle.event_log.specs.Log.{events}
 use Rattle.store.specs.Records.{has_record, record_in, lists_in, record_at}
 use Rattle.coords.specs.Coords.{pair_s, coords_s, between_s}
 use Rattle.lines.specs.Lines.{stretch_s, lines_s, flat_o, flat_s, rings_s, stretches_s, polygon_s, multi_line_s, point_s}
 use Rattle.reader.specs.Reading.{span_s, parts_s, kind_s, geometry_s, root_s, read_s}
 use Rattle.reader.specs.Examples.{no_flags}
 use Rattle.property_reader.specs.Reading.{reading}
-use Rattle.log.specs.Values.{values}
+use Rattle.event_log.specs.Values.{values}
 use Rattle.properties.specs.Examples as Properties
 use Rattle.writing.specs.State.{Mem}
 use Rattle.writing.specs.Calls.{started, event_call}
@@ -79,39 +79,39 @@ module _ (get : ℕ → Option Rec) where
 -- ---- the table
 -- B1. Polygon, one ring of 4 pairs: 8 words, no ends.
 pub b1 : Gives 3 false false (blank 1 8 1) (polygon (four ∷ [])) (rec 0 (1 ∷ 2 ∷ 3 ∷ 4 ∷ 5 ∷ 6 ∷ 1 ∷ 2 ∷ []) none ∷ []) (told (polygon (four ∷ [])))
-b1 n = (Called.b1-called n, says _ _ _ _ (b1_says _ (Called.b1-called n).1))
+b1 n = (Called.b1_called n, says _ _ _ _ (b1_says _ (Called.b1_called n).1))
 
 -- B2. Two rings of 4: ends 4, 8.
 pub b2 : Gives 3 false false (blank 1 16 2) (polygon (four ∷ four ∷ [])) (rec 0 (1 ∷ 2 ∷ 3 ∷ 4 ∷ 5 ∷ 6 ∷ 1 ∷ 2 ∷ 1 ∷ 2 ∷ 3 ∷ 4 ∷ 5 ∷ 6 ∷ 1 ∷ 2 ∷ []) (some (4 ∷ 8 ∷ [])) ∷ []) (told (polygon (four ∷ four ∷ [])))
-b2 n = (Called.b2-called n, says _ _ _ _ (b2_says _ (Called.b2-called n).1))
+b2 n = (Called.b2_called n, says _ _ _ _ (b2_says _ (Called.b2_called n).1))
 
 -- B3. No ring: empty xy; reads as one empty ring, 4 events.
 pub b3 : Gives 3 false false (blank 1 0 0) (polygon []) (rec 0 [] none ∷ []) (told (polygon ([] ∷ [])))
-b3 n = (Called.b3-called n, says _ _ _ _ (b3_says _ (Called.b3-called n).1))
+b3 n = (Called.b3_called n, says _ _ _ _ (b3_says _ (Called.b3_called n).1))
 
 -- B4. MultiLineString of 2, 0, 3 pairs: ends 2, 2, 5.
 pub b4 : Gives 5 false false (blank 1 10 3) (begin_e 5 false 3 0 ∷ (lines (two ∷ [] ∷ three ∷ []) 0 ++ (end_e 5 false 0 ∷ []))) (rec 0 (1 ∷ 2 ∷ 3 ∷ 4 ∷ 1 ∷ 2 ∷ 3 ∷ 4 ∷ 5 ∷ 6 ∷ []) (some (2 ∷ 2 ∷ 5 ∷ [])) ∷ []) (told (begin_e 5 false 3 0 ∷ (lines (two ∷ [] ∷ three ∷ []) 0 ++ (end_e 5 false 0 ∷ []))))
-b4 n = (Called.b4-called n, says _ _ _ _ (b4_says _ (Called.b4-called n).1))
+b4 n = (Called.b4_called n, says _ _ _ _ (b4_says _ (Called.b4_called n).1))
 
 -- B5. Declared MultiLineString, tagged LineString of 2 pairs, promote: no ends, reads as one line.
 pub b5 : Gives 5 false true (blank 1 4 1) (line true two 0) (rec 0 (1 ∷ 2 ∷ 3 ∷ 4 ∷ []) none ∷ []) (told (begin_e 5 false 1 0 ∷ (lines (two ∷ []) 0 ++ (end_e 5 false 0 ∷ []))))
-b5 n = (Called.b5-called n, says _ _ _ _ (b5_says _ (Called.b5-called n).1))
+b5 n = (Called.b5_called n, says _ _ _ _ (b5_says _ (Called.b5_called n).1))
 
 -- B6. Without promote: 5, on any memory.
 pub b6 : (n : ℕ) (k : Mem) → (event_call (started 5 false false) k ((events n).bytes (begin_e 2 true 2 0))).wrote.number ≡ 5
-b6 = Called.b6-called
+b6 = Called.b6_called
 
 -- B7. MultiPolygon, no polygon: empty xy, no parts; reads 2, no event.
 pub b7 : Gives 6 false false (blank 1 0 0) (begin_e 6 false 0 0 ∷ end_e 6 false 0 ∷ []) (rec 0 [] none ∷ []) (stop 2)
-b7 n = (Called.b7-called n, says _ _ _ _ (b7_says _ (Called.b7-called n).1))
+b7 n = (Called.b7_called n, says _ _ _ _ (b7_says _ (Called.b7_called n).1))
 
 -- B8. Declared GeometryCollection with a Polygon of one 4-pair ring: a root of type 3 over two parts of type 3, with 4 pairs and none.
 pub b8 : Gives 7 false false (blank 3 8 1) (begin_e 7 false 1 0 ∷ (polygon (four ∷ []) ++ (end_e 7 false 0 ∷ []))) (root 3 2 ∷ rec 3 (1 ∷ 2 ∷ 3 ∷ 4 ∷ 5 ∷ 6 ∷ 1 ∷ 2 ∷ []) none ∷ rec 3 [] none ∷ []) (told (begin_e 7 false 2 0 ∷ (polygon (four ∷ []) ++ (begin_e 3 true 1 1 ∷ (line false [] 0 ++ (end_e 3 true 1 ∷ end_e 7 false 0 ∷ []))))))
-b8 n = (Called.b8-called n, says _ _ _ _ (b8_says _ (Called.b8-called n).1))
+b8 n = (Called.b8_called n, says _ _ _ _ (b8_says _ (Called.b8_called n).1))
 
 -- B9. Unknown, no detect, no promote, a collection of one Point: root type 1; reads point_begin, then 1.
 pub b9 : Gives 0 false false (blank 2 2 0) (begin_e 7 false 1 0 ∷ begin_e 1 false 0 0 ∷ xy_e 1 2 0 ∷ end_e 1 false 0 ∷ end_e 7 false 0 ∷ []) (root 1 1 ∷ rec 1 (1 ∷ 2 ∷ []) none ∷ []) (say (begin_e 1 false 0 0) (stop 1))
-b9 n = (Called.b9-called n, says _ _ _ _ (b9_says _ (Called.b9-called n).1))
+b9 n = (Called.b9_called n, says _ _ _ _ (b9_says _ (Called.b9_called n).1))
 
 -- ---- B10 and B11: a table of one record, from its bytes
 abbrev no_pair : List ℕ

@@ -6,7 +6,7 @@ use Rattle.std.proofs.Math.Option.{Option}
 use Rattle.laws.specs.Cut.{room_of, Said}
 use Rattle.kinds.specs.declared.event.Event.{Event}
 use Rattle.store.specs.Lists.{Rec, Pools, record_with}
-use Rattle.log.specs.Log.{events}
+use Rattle.event_log.specs.Log.{events}
 use Rattle.store.specs.Records.{table_good}
 use Rattle.reader.specs.Reading.{read_s}
 use Rattle.reader.specs.Examples.{no_flags}

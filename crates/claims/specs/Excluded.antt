@@ -13,7 +13,7 @@ use Rattle.kinds.specs.Event.{EventSized, begin_e, xy_e, end_e, well_formed}
 use Rattle.kinds.specs.declared.event.Event.{Event}
 use Rattle.kinds.specs.declared.flags.Flags.{Flags}
 use Rattle.store.specs.Lists.{Rec, Pools, lent_of, record_with}
-use Rattle.log.specs.Log.{events, hear_said}
+use Rattle.event_log.specs.Log.{events, hear_said}
 use Rattle.lines.specs.Lines.{or_none}
 use Rattle.reader.specs.Reading.{read_s}
 use Rattle.reader.specs.Examples.{no_flags}

@@ -8,7 +8,7 @@ use Rattle.kinds.specs.Event.{begin_e, end_e, xy_e, well_formed, WellFormed}
 use Rattle.kinds.specs.declared.event.Event.{Event}
 use Rattle.event_layout.specs.Event.{event_bytes, event_of, feature_of, spare_zero, read_event}
 use Rattle.store.specs.Lists.{lent_of}
-use Rattle.log.specs.Log.{events, heard, feature_in}
+use Rattle.event_log.specs.Log.{events, heard, feature_in}
 use Rattle.store.specs.Records.{records_lent, table_good}
 use Rattle.reader.specs.Examples.{no_flags}
 use Rattle.writing.specs.declared.state.State.{State}

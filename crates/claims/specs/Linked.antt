@@ -8,7 +8,7 @@ use Rattle.kinds.specs.declared.event.Event.{Event}
 use Rattle.kinds.specs.Event.{Parsed, WellFormed, Malformed}
 use Rattle.store.specs.Lists.{Rec, record_with}
 use Rattle.store.specs.Records.{table_good}
-use Rattle.log.specs.Log.{heard, feature_in, record_of, records_in}
+use Rattle.event_log.specs.Log.{heard, feature_in, record_of, records_in}
 use Rattle.property_writer.specs.Writing.{put_of}
 use Rattle.properties.specs.RoundTrip.{Property}
 use Rattle.writing.specs.declared.state.State.{State}

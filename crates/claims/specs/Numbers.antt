@@ -5,7 +5,7 @@ use Rattle.std.proofs.Common.{◌∙◌, arith, eqb-true}
 use Rattle.std.proofs.lemmas.Bool.{eqb-false}
 use Rattle.kinds.specs.Event.{Parsed, WellFormed, Malformed}
 use Rattle.kinds.specs.declared.event.Event.{Event}
-use Rattle.log.specs.Log.{heard, feature_in, record_of, records_in}
+use Rattle.event_log.specs.Log.{heard, feature_in, record_of, records_in}
 use Rattle.writing.specs.declared.feature.Feature.{Feature}
 use Rattle.writing.specs.declared.feature.Feature.TheVariants.{Open, Numbered}
 use Rattle.writing.specs.declared.state.State.{State}

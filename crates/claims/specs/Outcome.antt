@@ -5,7 +5,7 @@ use Rattle.laws.specs.Script.{Script, out, Format, run}
 use Rattle.laws.specs.Cut.{records_of, room_of, bytes_of, Said}
 use Rattle.kinds.specs.declared.flags.Flags.{Flags}
 use Rattle.store.specs.Lists.{Pools, record_with}
-use Rattle.log.specs.Log.{events}
+use Rattle.event_log.specs.Log.{events}
 use Rattle.record_box.specs.declared.Boxed.{Boxed}
 use Rattle.record_box.specs.Boxed.{box_of}
 use Rattle.reader.specs.Reading.{read_s}
@@ -14,7 +14,7 @@ use Rattle.wkb_written.specs.Writing.{Written, Did}
 use Rattle.property_writer.specs.Writing.{bytes_after}
 use Rattle.property_value.specs.Value.{placed}
 use Rattle.property_reader.specs.Reading.{reading, bad_in, stopped}
-use Rattle.log.specs.Values.{values}
+use Rattle.event_log.specs.Values.{values}
 use Rattle.runs.specs.declared.took.Took.{Took}
 use Rattle.writing.specs.declared.state.State.{State}
 use Rattle.writing.specs.declared.state.Wrote.{Wrote}

@@ -2,7 +2,7 @@
 use Rattle.std.specs.Prelude.{◌≡◌, cond, List, [], ◌∷◌, ◌++◌, ℕ, zero, suc, ◌+◌, ◌<◌, take, eqb}
 use Rattle.kinds.specs.declared.event.Event.{Event}
 use Rattle.kinds.specs.Event.{Parsed, WellFormed, Malformed}
-use Rattle.log.specs.Log.{heard, feature_in, record_of}
+use Rattle.event_log.specs.Log.{heard, feature_in, record_of}
 use Rattle.property_writer.specs.Writing.{bytes_after}
 use Rattle.properties.specs.RoundTrip.{Property}
 use Rattle.writing.specs.declared.state.Wrote.{Wrote}

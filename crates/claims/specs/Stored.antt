@@ -9,8 +9,8 @@ use Rattle.std.proofs.lemmas.Bool.{eqb-false}
 use Rattle.laws.specs.Script.{say}
 use Rattle.laws.specs.Cut.{room_of, Said}
 use Rattle.kinds.specs.declared.value.Value.{Value}
-use Rattle.log.specs.Log.{heard, feature_in, record_of, records_in}
-use Rattle.log.specs.Values.{values}
+use Rattle.event_log.specs.Log.{heard, feature_in, record_of, records_in}
+use Rattle.event_log.specs.Values.{values}
 use Rattle.geometries.specs.Told.{told, Complete, said_complete}
 use Rattle.property_writer.specs.Writing.{put_of}
 use Rattle.property_writer.specs.WritingLaws.{accepted, refused as untouched}

@@ -11,7 +11,7 @@ use Rattle.laws.specs.Bytes.{Bytes}
 use Rattle.laws.specs.Script.{Script}
 use Rattle.laws.specs.Cut.{records_of, number_of, room_of, Said, said_whole}
 use Rattle.kinds.specs.declared.event.Event.{Event}
-use Rattle.log.specs.Log.{events, records_in}
+use Rattle.event_log.specs.Log.{events, records_in}
 use Rattle.geometries.specs.Told.{told, told-number, told-records}
 use Rattle.planar.specs.Geometry.{Geometry}
 use Rattle.planar.specs.Fits.{Fits}

@@ -2,7 +2,7 @@
 ghost use Rattle.std.specs.Prelude.{◌≡◌};
 ghost use Rattle.compared.specs.Compared.{Exactly, Common, AsGiven};
 
-use log::EVENT_BYTES;
+use event_log::EVENT_BYTES;
 
 // How many bytes two rows begin with in common.
 pub fn common(a: &[u8], b: &[u8]) -> usize

@@ -5,7 +5,7 @@ use crate::words::{say_content, say_type};
 use kinds::event::{Event, Heard, bit_set};
 use kinds::flags::Flags;
 use kinds::geometry_type;
-use log::EVENT_BYTES;
+use event_log::EVENT_BYTES;
 
 fn say_value(present: u8, bit: u8, name: &[u8], bits: u64) {
     if bit == 0 {
@@ -82,9 +82,9 @@ pub fn say_record(bytes: &[u8], inside: u8) {
     if bytes.len() != EVENT_BYTES {
         return say(b"malformed");
     }
-    let heard = log::hear(bytes);
+    let heard = event_log::hear(bytes);
     if let Heard::Malformed = heard {
         return say(b"malformed");
     }
-    say_event(log::event_in(bytes), inside);
+    say_event(event_log::event_in(bytes), inside);
 }

@@ -3,10 +3,10 @@ use crate::event::say_event;
 use crate::output::{end_line, indent};
 use kinds::event::{Event, Heard};
 use kinds::geometry_type;
-use log::EVENT_BYTES;
+use event_log::EVENT_BYTES;
 
 // Where the map is: how deep, and in a geometry of which type.
-#[derive(Drop)]
+#[derive(Clone, Copy)]
 struct Spot {
     depth: u8,
     inside: u8,
@@ -62,11 +62,11 @@ fn show_record(bytes: &[u8], spot: Spot) -> Spot {
     if bytes.len() != EVENT_BYTES {
         return spot;
     }
-    let heard = log::hear(bytes);
+    let heard = event_log::hear(bytes);
     if let Heard::Malformed = heard {
         return spot;
     }
-    show_event(log::event_in(bytes), spot)
+    show_event(event_log::event_in(bytes), spot)
 }
 
 // The first events of a log, so many.

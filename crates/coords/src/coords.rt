@@ -3,7 +3,7 @@ ghost use Rattle.std.specs.Prelude.{◌≡◌, ◌+◌, ◌-◌, ◌≤◌, ◌<
 ghost use Rattle.laws.specs.Script.{out, run};
 ghost use Rattle.laws.specs.Framed.{framed};
 ghost use Rattle.kinds.specs.Event.{begin_e, end_e};
-ghost use Rattle.log.specs.Log.{events};
+ghost use Rattle.event_log.specs.Log.{events};
 ghost use Rattle.coords.specs.Coords.{coords_s, dropped};
 ghost use Rattle.coords.specs.Seen.{lanes_in, window_s};
 
@@ -14,7 +14,7 @@ use kinds::event::Event;
 use kinds::refusal;
 
 // A begin and its end.
-#[derive(Drop)]
+#[derive(Clone, Copy)]
 pub struct Frame {
     pub kind: u8,
     pub tagged: bool,
@@ -57,7 +57,7 @@ fn read_coords(
                 count: said,
             };
         };
-        let r = log::say(log, feature, said, e);
+        let r = event_log::say(log, feature, said, e);
         if r.number != refusal::DONE {
             return r;
         }
@@ -90,7 +90,7 @@ pub fn read_window(
         run (events feature) (framed (begin_e f.kind f.tagged f.size f.idx) W (end_e f.kind f.tagged f.idx))
         log.old count ≡ out result.number result.count log.new }
 {
-    let b = log::say(
+    let b = event_log::say(
         log,
         feature,
         count,
@@ -117,5 +117,5 @@ pub fn read_window(
     if r.number != refusal::DONE {
         return r;
     }
-    log::say(log, feature, r.count, Event::end(f.kind, f.tagged, f.idx))
+    event_log::say(log, feature, r.count, Event::end(f.kind, f.tagged, f.idx))
 }

@@ -10,7 +10,7 @@ use kinds::event::Event;
 use kinds::flags::Flags;
 
 // What a list has at a place.
-#[derive(Drop)]
+#[derive(Clone, Copy)]
 pub enum Value {
     Absent,
     Past,
@@ -18,14 +18,14 @@ pub enum Value {
 }
 
 // A pair as an event, or short of a value.
-#[derive(Drop)]
+#[derive(Clone, Copy)]
 pub enum Pair {
     Whole(Event),
     Short,
 }
 
 // Which of a record's lists are there, as the flags let them be seen; `many` where any flag is set.
-#[derive(Drop)]
+#[derive(Clone, Copy)]
 pub struct Seen {
     pub many: bool,
     pub xy: bool,

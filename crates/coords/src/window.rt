@@ -6,7 +6,7 @@ use kinds::refusal;
 
 // A stretch of a record's xy words; its first pair is number `from` of the record's, and after its last pair stands
 // the number `last`.
-#[derive(Drop)]
+#[derive(Clone, Copy)]
 pub struct Window {
     pub from: usize,
     pub start: usize,

@@ -9,7 +9,7 @@ const HALF_WORD: u64 = 4294967296;
 const HALF: u64 = 0x8000_0000_0000_0000;
 
 // A product with the ten millions, as `high` half words and one `low` half word.
-#[derive(Drop)]
+#[derive(Clone, Copy)]
 struct Product {
     high: u64,
     low: u64,

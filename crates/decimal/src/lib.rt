@@ -10,14 +10,14 @@ use finite::finite;
 pub use text::{TEXT_BYTES, spell};
 
 // A number without its sign: what stands before the point, and behind it in ten-millionths.
-#[derive(Drop)]
+#[derive(Clone, Copy)]
 pub struct Decimal {
     pub whole: u64,
     pub fraction: u64,
 }
 
 // A pattern without its sign. What does not fit a word before the point is vast.
-#[derive(Drop)]
+#[derive(Clone, Copy)]
 pub enum Magnitude {
     Finite(Decimal),
     Vast,

@@ -13,7 +13,7 @@ use Rattle.property_writer.specs.Writing.{text_bytes, laid_down, property_bytes 
 use Rattle.property_value.specs.Value.{malformed, text_ok}
 use Rattle.property_writer.specs.WritingLaws.{Accepted, accepted, value_number, value_text}
 use Rattle.property_reader.specs.Reading.{properties_from, reading}
-use Rattle.log.specs.Values.{values}
+use Rattle.event_log.specs.Values.{values}
 use Rattle.properties.specs.ReadBack.{Writable, value_back, read_back}
 use Rattle.property_reader.specs.ReadingLaws.{read-end, read_whole}
 use Rattle.geometries.specs.Told.{told, Complete, said_complete}

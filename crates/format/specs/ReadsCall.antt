@@ -11,7 +11,7 @@ use Rattle.kinds.specs.declared.geometry.Span.{Span}
 use Rattle.kinds.specs.declared.geometry.Span.TheVariants.{Absent, Stretch}
 use Rattle.kinds.specs.declared.geometry.Judged.{Judged}
 use Rattle.kinds.specs.declared.geometry.Judged.TheVariants.{Good, Bad}
-use Rattle.log.specs.Log.{events}
+use Rattle.event_log.specs.Log.{events}
 use Rattle.store.specs.Records.{record_at}
 use Rattle.store.specs.RecordLaws.{InPool, within}
 use Rattle.store.specs.Lists.{Pools, lent_of, list_of, seen, record_with}

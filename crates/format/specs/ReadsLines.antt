@@ -2,7 +2,7 @@
 use Rattle.std.specs.Prelude.{◌≡◌, Bool, ℕ, ◌+◌, ◌-◌, ◌*◌, ◌<◌, ◌≤◌, length, take, drop}
 use Rattle.std.proofs.Math.Path.{refl}
 use Rattle.std.proofs.Common.{ap, arith, length-append, take_at, drop_at}
-use Rattle.std.proofs.Math.Bool.{true, false, cond, and_false}
+use Rattle.std.proofs.Math.Bool.{true, false, cond, and-false}
 use mathlib.Core.List.{List, [], ◌∷◌, ◌++◌, append_assoc, append-nil}
 use Rattle.std.proofs.Math.Option.{Option, none, some}
 use borrow.Author.Tests.{le-ltb, lt-leb}
@@ -109,7 +109,7 @@ module _ (F : Flags) where
 
     between : (C : Seen) (k : List Event) → Shows F C (qs ++ (l ++ ss)) → between_s C.many C.xy C.lanes (length qs) (length qs + length l) ⨟ told k ≡ told (each (coord_of F) l 0 k)
     unfolding between_s
-    between C k h = rw (h.many, h.xy, middle, le-ltb _ _ reaches, and_false, pairs l ss _ 0 k (fed_drop _ qs (l ++ ss) h.fed))
+    between C k h = rw (h.many, h.xy, middle, le-ltb _ _ reaches, and-false, pairs l ss _ 0 k (fed_drop _ qs (l ++ ss) h.fed))
 
     stretch : (C : Seen) (i : ℕ) (k : List Event) → Shows F C (qs ++ (l ++ ss)) → length (qs ++ (l ++ ss)) < 2147483648 → stretch_s C (length qs) (length qs + length l) i ⨟ told k ≡ told (line_of F l i k)
     stretch C i k h b =

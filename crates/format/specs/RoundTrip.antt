@@ -7,7 +7,7 @@ use Rattle.laws.specs.Every.{never}
 use Rattle.laws.specs.Cut.{room_of, Said}
 use Rattle.kinds.specs.declared.flags.Flags.{Flags}
 use Rattle.store.specs.Lists.{Rec, record_with}
-use Rattle.log.specs.Log.{events}
+use Rattle.event_log.specs.Log.{events}
 use Rattle.store.specs.Records.{table_good}
 use Rattle.reader.specs.Reading.{read_s}
 use Rattle.writing.specs.declared.state.State.{State}

@@ -4,7 +4,7 @@ use kinds::answer::Answer;
 use record_box::Boxed;
 
 // What a call has none of is 0 or empty.
-#[derive(Drop)]
+#[derive(Clone, Copy)]
 pub struct Reply {
     pub number: u8,
     // How many events are in the log, and the number that they are under.

@@ -32,7 +32,7 @@ fn read_name(columns: &mut [u8], i: usize, bytes: usize) -> usize
 }
 
 // A column's type and its name's length, as far as they were read.
-#[derive(Drop)]
+#[derive(Clone, Copy)]
 struct Column {
     got: usize,
     kind: u8,

@@ -36,7 +36,7 @@ pub const CUT_TEXT: u8 = 15;
 pub const NO_ROOM: u8 = 16;
 
 // What reading found up to a place: a fault there, or none.
-#[derive(Drop)]
+#[derive(Clone, Copy)]
 pub struct Finding {
     pub fault: u8,
     pub place: u64,

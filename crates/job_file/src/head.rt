@@ -8,7 +8,7 @@ use kinds::geometry_type;
 
 const BYTES: usize = 9;
 
-#[derive(Drop)]
+#[derive(Clone, Copy)]
 pub struct Head {
     pub declared: u8,
     pub detect: bool,
@@ -19,7 +19,7 @@ pub struct Head {
     pub items: u64,
 }
 
-#[derive(Drop)]
+#[derive(Clone, Copy)]
 pub enum Found {
     Job(Head),
     Nothing,

@@ -12,7 +12,7 @@ pub fn past(place: u64, bytes: usize) -> u64 {
 }
 
 // The next byte, or that there is none.
-#[derive(Drop)]
+#[derive(Clone, Copy)]
 pub enum Tag {
     Letter(u8),
     End,

@@ -5,7 +5,7 @@ use crate::input::{past, read};
 use event_layout::put_value;
 use kinds::column_type;
 use kinds::value::Value;
-use log::VALUE_BYTES;
+use event_log::VALUE_BYTES;
 use numbers::{u32_at, u64_at};
 
 // Before the text: the column, the type, the value's bits, the text's length.
@@ -16,7 +16,7 @@ const INDEX: u32 = 2;
 
 const INDEX_AND_LENGTH: u32 = 6;
 
-#[derive(Drop)]
+#[derive(Clone, Copy)]
 pub struct Property {
     pub column: u32,
     pub kind: u8,
@@ -25,7 +25,7 @@ pub struct Property {
 }
 
 // A property, and where reading it came to.
-#[derive(Drop)]
+#[derive(Clone, Copy)]
 pub struct Read {
     pub property: Property,
     pub fault: u8,

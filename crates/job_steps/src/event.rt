@@ -5,7 +5,7 @@ use crate::work::{Stage, Work};
 use console::{end_line, say, say_count, say_number, say_record, say_refusal};
 use job_file::{fault, read};
 use kinds::{geometry_type, refusal};
-use log::EVENT_BYTES;
+use event_log::EVENT_BYTES;
 use report::KEPT;
 
 // One more than are kept.
@@ -67,7 +67,7 @@ fn say_owner(event: &[u8], number: u8) {
         return;
     }
     say(b", of number ");
-    say_number(log::feature_in(event) as u64);
+    say_number(event_log::feature_in(event) as u64);
 }
 
 fn say_refused(work: Work, event: &[u8], number: u8) {

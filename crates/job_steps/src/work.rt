@@ -5,7 +5,7 @@ use job_file::past;
 use report::Feature;
 
 // What is to be done next.
-#[derive(Drop)]
+#[derive(Clone, Copy)]
 pub enum Stage {
     // The next item of the input is read.
     Item,
@@ -27,7 +27,7 @@ pub enum Stage {
     Over,
 }
 
-#[derive(Drop)]
+#[derive(Clone, Copy)]
 pub struct Work {
     // How many features were left behind, and what the one in hand was given.
     pub features: u64,

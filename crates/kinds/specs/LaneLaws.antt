@@ -10,7 +10,7 @@ lane_of_every f h =
     let m = both _ (f mL) t.0 in
     let z = both _ (f zL) m.0 in
     let ends = both (f xyL) (f endsL) z.0 in
-    λ n. elim n [ xyL ↦ ends.0 | endsL ↦ ends.1 | zL ↦ z.1 | mL ↦ m.1 | tL ↦ t.1 | tmL ↦ tm.1 ]
+    λ n. elim n as (λ k. f k ≡ true) [ xyL ↦ ends.0 | endsL ↦ ends.1 | zL ↦ z.1 | mL ↦ m.1 | tL ↦ t.1 | tmL ↦ tm.1 ]
 
 pub every_of_lanes : (f : Lane → Bool) → ((n : Lane) → f n ≡ true) → every_lane f ≡ true
 every_of_lanes f h = rw (h xyL, h endsL, h zL, h mL, h tL, h tmL)

@@ -1,5 +1,5 @@
 // What every call answers: the number, and how many log records were written (writing calls: 0).
-#[derive(Drop)]
+#[derive(Clone, Copy)]
 pub struct Answer {
     pub number: u8,
     pub count: usize,

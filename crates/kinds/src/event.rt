@@ -4,7 +4,7 @@ ghost use Rattle.kinds.specs.Event.{uses_of, keeps_uses, is_quiet, begin_e, end_
 
 use crate::flags::Flags;
 
-#[derive(Drop)]
+#[derive(Clone, Copy)]
 pub struct Event {
     pub kind: u8,
     pub tagged: bool,
@@ -20,7 +20,7 @@ pub struct Event {
 }
 
 // Which fields an event's kind uses: all use idx.
-#[derive(Drop)]
+#[derive(Clone, Copy)]
 pub struct Uses {
     pub idx: bool,
     pub tagged: bool,
@@ -30,7 +30,7 @@ pub struct Uses {
 }
 
 // What a record's bytes were heard as.
-#[derive(Drop)]
+#[derive(Clone, Copy)]
 pub enum Heard {
     // An xy event: no more than an index and a pair.
     Pair { x: u64, y: u64 },
@@ -44,7 +44,7 @@ pub enum Heard {
 }
 
 // Bytes that were heard as an xy event, or as anything else.
-#[derive(Drop)]
+#[derive(Clone, Copy)]
 pub enum Bare {
     Pair { x: u64, y: u64 },
     Other,

@@ -4,7 +4,7 @@ ghost use Rattle.kinds.specs.Flags.{flags_of};
 
 use crate::event::bit_set;
 
-#[derive(Drop)]
+#[derive(Clone, Copy)]
 pub struct Flags {
     pub z: bool,
     pub m: bool,

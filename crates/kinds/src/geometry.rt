@@ -3,14 +3,14 @@ ghost use Rattle.std.specs.Prelude.{◌≡◌};
 ghost use Rattle.kinds.specs.Lanes.{lent_words};
 
 // Where a list stands in its pool.
-#[derive(Drop)]
+#[derive(Clone, Copy)]
 pub enum Span {
     Absent,
     Stretch { start: u32, count: u32 },
 }
 
 // Parts are a stretch of the geometry table.
-#[derive(Drop)]
+#[derive(Clone, Copy)]
 pub struct Geometry {
     pub kind: u8,
     pub xy: Span,
@@ -23,14 +23,14 @@ pub struct Geometry {
 }
 
 // A record that was asked for.
-#[derive(Drop)]
+#[derive(Clone, Copy)]
 pub enum Judged {
     Good(Geometry),
     Bad,
 }
 
 // How many words of each pool are lent.
-#[derive(Drop)]
+#[derive(Clone, Copy)]
 pub struct Lent {
     pub xy: usize,
     pub ends: usize,
@@ -56,7 +56,7 @@ impl Lent {
 }
 
 // A record that has an xy list and no other, or any other record.
-#[derive(Drop)]
+#[derive(Clone, Copy)]
 pub enum Lone {
     List { start: u32, count: u32 },
     Other,

@@ -9,7 +9,7 @@ use Rattle.laws.specs.Cut.{records_of, number_of, room_of, bytes_of, Said}
 use Rattle.kinds.specs.Event.{WellFormed}
 use Rattle.kinds.specs.declared.event.Event.{Event}
 use Rattle.kinds.specs.declared.flags.Flags.{Flags}
-use Rattle.log.specs.Log.{events, heard, hear_said}
+use Rattle.event_log.specs.Log.{events, heard, hear_said}
 use Rattle.store.specs.Lists.{Pools, record_with}
 use Rattle.reader.specs.Reading.{read_s}
 use Rattle.least.specs.Fits.{AllSaid, Fits}

@@ -1,7 +1,7 @@
 // Lines of a record: a stretch from each end to the next, or the whole list as one; a Polygon and a MultiLineString of them.
 ghost use Rattle.std.specs.Prelude.{◌≡◌, cond, not, ◌&&◌, ◌≤◌, ◌<◌, leb, length};
 ghost use Rattle.laws.specs.Script.{out, run};
-ghost use Rattle.log.specs.Log.{events};
+ghost use Rattle.event_log.specs.Log.{events};
 ghost use Rattle.coords.specs.Seen.{coords_in};
 ghost use Rattle.lines.specs.Lines.{bad_end, stretch_s, lines_s, flat_s, rings_s, stretches_s, multi_line_s};
 
@@ -201,7 +201,7 @@ pub fn read_stretches(
         run (events feature) (stretches_s kind tagged idx C ends.now) log.old count ≡ out result.number result.count log.new }
 {
     let size = stretches(ends.len());
-    let b = log::say(log, feature, count, Event::begin(kind, tagged, size, idx));
+    let b = event_log::say(log, feature, count, Event::begin(kind, tagged, size, idx));
     if b.number != refusal::DONE {
         return b;
     }
@@ -209,7 +209,7 @@ pub fn read_stretches(
     if r.number != refusal::DONE {
         return r;
     }
-    log::say(log, feature, r.count, Event::end(kind, tagged, idx))
+    event_log::say(log, feature, r.count, Event::end(kind, tagged, idx))
 }
 
 pub fn read_multilinestring(

@@ -1,7 +1,7 @@
 // The polygon of a record that has an xy list and no other, of which no z, m, t or tm is read: the common part.
 ghost use Rattle.std.specs.Prelude.{◌≡◌, false, [], ◌≤◌, length};
 ghost use Rattle.laws.specs.Script.{out, run};
-ghost use Rattle.log.specs.Log.{events};
+ghost use Rattle.event_log.specs.Log.{events};
 ghost use Rattle.lines.specs.Lines.{flat_s, stretches_s};
 ghost use Rattle.lone_ring.specs.Lone.{lone_s, lone_coords};
 
@@ -23,7 +23,7 @@ fn read_lone_pairs(log: &mut [u8], feature: u32, count: usize, xy: &[u64]) -> An
                 count: said,
             };
         }
-        let r = log::say(log, feature, said, Event::xy(xy[i], xy[i + 1], n));
+        let r = event_log::say(log, feature, said, Event::xy(xy[i], xy[i + 1], n));
         if r.number != refusal::DONE {
             return r;
         }
@@ -44,7 +44,7 @@ fn read_lone_line(log: &mut [u8], feature: u32, count: usize, xy: &[u64]) -> Ans
 {
     let kind = geometry_type::LINE_STRING;
     let size = (xy.len() / 2) as u32;
-    let b = log::say(log, feature, count, Event::begin(kind, false, size, 0));
+    let b = event_log::say(log, feature, count, Event::begin(kind, false, size, 0));
     if b.number != refusal::DONE {
         return b;
     }
@@ -52,7 +52,7 @@ fn read_lone_line(log: &mut [u8], feature: u32, count: usize, xy: &[u64]) -> Ans
     if r.number != refusal::DONE {
         return r;
     }
-    log::say(log, feature, r.count, Event::end(kind, false, 0))
+    event_log::say(log, feature, r.count, Event::end(kind, false, 0))
 }
 
 // An untagged polygon whose one ring is the whole list.
@@ -62,7 +62,7 @@ pub fn read_lone_ring(log: &mut [u8], feature: u32, count: usize, xy: &[u64], id
         log.old count ≡ out result.number result.count log.new }
 {
     let kind = geometry_type::POLYGON;
-    let b = log::say(log, feature, count, Event::begin(kind, false, 1, idx));
+    let b = event_log::say(log, feature, count, Event::begin(kind, false, 1, idx));
     if b.number != refusal::DONE {
         return b;
     }
@@ -70,5 +70,5 @@ pub fn read_lone_ring(log: &mut [u8], feature: u32, count: usize, xy: &[u64], id
     if r.number != refusal::DONE {
         return r;
     }
-    log::say(log, feature, r.count, Event::end(kind, false, idx))
+    event_log::say(log, feature, r.count, Event::end(kind, false, idx))
 }

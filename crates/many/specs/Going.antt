@@ -6,8 +6,8 @@ use Rattle.std.proofs.lemmas.Bool.{eqb-false}
 use Rattle.kinds.specs.Event.{Malformed}
 use Rattle.kinds.specs.declared.geometry.Lent.{Lent}
 use Rattle.store.specs.Lists.{lent_of}
-use Rattle.log.specs.Log.{heard, rest_number, record_of, records_in}
-use Rattle.log.specs.LogLaws.{not_whole}
+use Rattle.event_log.specs.Log.{heard, rest_number, record_of, records_in}
+use Rattle.event_log.specs.LogLaws.{not_whole}
 use Rattle.store.specs.Records.{records_lent}
 use Rattle.runs.specs.declared.took.Took.{Took}
 use Rattle.pending.specs.declared.words.Pending.{Pending}

@@ -7,8 +7,8 @@ use Rattle.std.proofs.lemmas.Bool.{eqb-false}
 use Rattle.laws.specs.Every.{never}
 use Rattle.kinds.specs.Event.{Parsed, WellFormed, Malformed}
 use Rattle.kinds.specs.declared.event.Event.{Event}
-use Rattle.log.specs.Log.{heard, feature_in, record_of, records_in}
-use Rattle.log.specs.LogLaws.{not_whole}
+use Rattle.event_log.specs.Log.{heard, feature_in, record_of, records_in}
+use Rattle.event_log.specs.LogLaws.{not_whole}
 use Rattle.asking.specs.declared.ask.Ask.{Ask}
 use Rattle.asking.specs.declared.set_type.Typed.{Typed}
 use Rattle.asking.specs.declared.set_type.Typed.TheVariants.{Set, Mixed}

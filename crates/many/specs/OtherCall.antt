@@ -7,7 +7,7 @@ use Rattle.kinds.specs.Event.{WellFormed}
 use Rattle.kinds.specs.Lanes.{endsL}
 use Rattle.kinds.specs.declared.event.Event.{Event}
 use Rattle.store.specs.Lists.{pools_of, lent_of}
-use Rattle.log.specs.Log.{heard, feature_in}
+use Rattle.event_log.specs.Log.{heard, feature_in}
 use Rattle.store.specs.Records.{records_lent}
 use Rattle.asking.specs.declared.ask.Ask.{Ask}
 use Rattle.asking.specs.declared.set_type.Typed.{Typed}

@@ -7,7 +7,7 @@ ghost use Rattle.runs.specs.Events.{progress, events_call};
 use frames::take_other;
 use kinds::geometry::Lent;
 use kinds::refusal;
-use log::rest_number;
+use event_log::rest_number;
 use runs::{Stop, Took, blocked_number, take_plain};
 use writing::ready::is_ready;
 use writing::state::State;

@@ -13,7 +13,7 @@ pub fn held_by(feature: Feature, bytes: &[u8]) -> u32
             if bytes.len() < 64 {
                 return 0;
             }
-            log::feature_in(&bytes[0..64])
+            event_log::feature_in(&bytes[0..64])
         }
         Feature::Numbered(n) => n,
     }

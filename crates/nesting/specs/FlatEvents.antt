@@ -23,28 +23,28 @@ group-flat q type tagged f g h xs i k =
     ap (λ (l : List Flat). begin_e (number type) tagged (length xs) i ∷ l) (each-flat q f g h xs 0 (end type tagged i ∷ k))
     ∙ ap (λ (n : ℕ). begin_e (number type) tagged n i ∷ Told.each g (map q xs) 0 (end_e (number type) tagged i ∷ map flat k)) (sym (length-map xs q))
 
-coord_flat : Same coord_in coord_of (Told.coordOf plain)
+coord_flat : Same coord_in coord_of (Told.coord_of plain)
 coord_flat c i k = refl
 
 line-flat : Same line_in line_of (Told.line_of plain)
-line-flat = group-flat coord_in LineString false coord_of (Told.coordOf plain) coord_flat
+line-flat = group-flat coord_in LineString false coord_of (Told.coord_of plain) coord_flat
 
 rings_flat : Same rings_in rings_of (Told.group 3 false (Told.line_of plain))
 rings_flat = group-flat line_in Polygon false line_of (Told.line_of plain) line-flat
 
-simple_flat : Same simple_in simple_of (Told.simpleOf plain)
+simple_flat : Same simple_in simple_of (Told.simple_of plain)
 simple_flat (point c) i k = refl
-simple_flat (line_string l) i k = group-flat coord_in LineString true coord_of (Told.coordOf plain) coord_flat l i k
+simple_flat (line_string l) i k = group-flat coord_in LineString true coord_of (Told.coord_of plain) coord_flat l i k
 simple_flat (polygon rs) i k = group-flat line_in Polygon true line_of (Told.line_of plain) line-flat rs i k
-simple_flat (multi_point cs) i k = group-flat coord_in MultiPoint false coord_of (Told.coordOf plain) coord_flat cs i k
+simple_flat (multi_point cs) i k = group-flat coord_in MultiPoint false coord_of (Told.coord_of plain) coord_flat cs i k
 simple_flat (multi_line_string ls) i k = group-flat line_in MultiLineString false line_of (Told.line_of plain) line-flat ls i k
 simple_flat (multi_polygon ps) i k = group-flat rings_in MultiPolygon false rings_of (Told.group 3 false (Told.line_of plain)) rings_flat ps i k
 
-geometry_flat : (n : ℕ) → Same (geometry_in n) (geometry_of n) (Told.geometryOf plain n)
+geometry_flat : (n : ℕ) → Same (geometry_in n) (geometry_of n) (Told.geometry_of plain n)
 geometry_flat zero s i k = simple_flat s i k
 geometry_flat (suc n) (simple s) i k = simple_flat s i k
-geometry_flat (suc n) (collection gs) i k = group-flat (geometry_in n) Collection false (geometry_of n) (Told.geometryOf plain n) (geometry_flat n) gs i k
+geometry_flat (suc n) (collection gs) i k = group-flat (geometry_in n) Collection false (geometry_of n) (Told.geometry_of plain n) (geometry_flat n) gs i k
 
 pub events-flat : (n : ℕ) (g : Geometry n) → map flat (events_of n g) ≡ planar_events n g
-unfolding planar_events Told.eventsOf
+unfolding planar_events Told.events_of
 events-flat n g = geometry_flat n g 0 []

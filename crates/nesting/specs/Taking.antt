@@ -1,7 +1,7 @@
 -- What the code's frames take: each is one of the machine's, with its type as a number.
 use Rattle.std.specs.Prelude.{◌≡◌, refl, Bool, true, false, not, cond, ◌&&◌, ◌||◌, List, ◌∷◌, ℕ, ◌+◌, ◌<◌, eqb, ltb, leb}
 use Rattle.std.proofs.Common.{sym, ap, ◌∙◌, arith, lt-ltb}
-use Rattle.std.proofs.Math.Bool.{and_true}
+use Rattle.std.proofs.Math.Bool.{and-true}
 use Rattle.laws.specs.Every.{never, both}
 use Rattle.nesting.specs.declared.frame.Frame.{Frame as Held}
 use Rattle.nesting.specs.Events.{GeometryType, Point, LineString, Polygon, MultiPoint, MultiLineString, MultiPolygon, Collection, begin}
@@ -147,10 +147,10 @@ point_holds R size Collection e = absurd (omega arith)
 pub other_holds : (empty deeper : Bool) (size : ℕ) → size < limit → (type : GeometryType) → (number type ≡ 1 → ⊥) → holds_by empty (number type) size ≡ allowed (ample empty deeper) type size
 other_holds empty deeper size h Point k = absurd (k refl)
 other_holds empty deeper size h LineString k = rw (lt-ltb size limit h)
-other_holds empty deeper size h Polygon k = rw (lt-ltb size limit h) (sym (and_true (empty || leb 1 size)))
+other_holds empty deeper size h Polygon k = rw (lt-ltb size limit h) (sym (and-true (empty || leb 1 size)))
 other_holds empty deeper size h MultiPoint k = rw (lt-ltb size limit h)
-other_holds empty deeper size h MultiLineString k = rw (lt-ltb size limit h) (sym (and_true (empty || leb 1 size)))
-other_holds empty deeper size h MultiPolygon k = rw (lt-ltb size limit h) (sym (and_true (empty || leb 1 size)))
+other_holds empty deeper size h MultiLineString k = rw (lt-ltb size limit h) (sym (and-true (empty || leb 1 size)))
+other_holds empty deeper size h MultiPolygon k = rw (lt-ltb size limit h) (sym (and-true (empty || leb 1 size)))
 other_holds empty deeper size h Collection k = rw (lt-ltb size limit h)
 
 abbrev pub opens_by : Bool → ℕ → Bool
@@ -176,7 +176,7 @@ module _ (g : Frame) (kind : ℕ) (tagged : Bool) (done size : ℕ) (is-kind : k
   pair_fits_lem : (idx x y : ℕ) → x < limit64 → y < limit64 → ((eqb kind 1 || eqb kind 2 || eqb kind 4) && ltb done size && eqb idx done) ≡ pair_fits g x y idx
   pair_fits_lem idx x y h k =
       let p : Bool = of_pairs g.type && ltb g.done g.size && eqb idx g.done in
-      rw (is-kind, is-done, is-size, pairs_is g.type, lt-ltb x limit64 h, lt-ltb y limit64 k) (sym (and_true (p && true) ∙ and_true p))
+      rw (is-kind, is-done, is-size, pairs_is g.type, lt-ltb x limit64 h, lt-ltb y limit64 k) (sym (and-true (p && true) ∙ and-true p))
 
   end_fits_lem : (own idx : ℕ) → own ≡ g.idx → (type : GeometryType) (tag : Bool) → (eqb (number type) kind && ((tag && tagged) || (not tag && not tagged)) && eqb idx own && eqb done size) ≡ end_fits g type tag idx
   end_fits_lem own idx is-own type tag = rw (is-kind, is-tagged, is-done, is-size, is-own, same-is tag g.tagged)

@@ -9,7 +9,7 @@ ghost use Rattle.nesting.specs.Taking.{Is, ample, standing, tag_fits, begins};
 use kinds::geometry_type;
 
 // `done` of `size` things inside it are closed. A Point has one thing, its pair.
-#[derive(Drop)]
+#[derive(Clone, Copy)]
 pub struct Frame {
     pub kind: u8,
     pub tagged: bool,
@@ -21,7 +21,7 @@ pub struct Frame {
 // What a use of the machine chooses. `empty`: a Polygon, a MultiLineString or a MultiPolygon may be empty, as any other geometry of many
 // things may be. `deeper`: the members of a MultiPoint or a MultiLineString lie one level deeper, as those of a MultiPolygon or a
 // GeometryCollection do.
-#[derive(Drop)]
+#[derive(Clone, Copy)]
 pub struct Rules {
     pub empty: bool,
     pub deeper: bool,

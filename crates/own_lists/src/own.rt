@@ -3,7 +3,7 @@ ghost use Rattle.std.specs.Prelude.{◌≡◌, ◌+◌, ◌≤◌, length};
 ghost use Rattle.laws.specs.Script.{out, run};
 ghost use Rattle.kinds.specs.Geometry.{start_of, count_of};
 ghost use Rattle.store.specs.Lists.{pools_of, list_of, lists_of};
-ghost use Rattle.log.specs.Log.{events};
+ghost use Rattle.event_log.specs.Log.{events};
 ghost use Rattle.coords.specs.Coords.{coords_of};
 ghost use Rattle.lines.specs.Lines.{or_none};
 ghost use Rattle.coords.specs.Seen.{coords_in};
@@ -18,7 +18,7 @@ use lines::{read_line, read_multilinestring, read_stretches};
 use triangles::{read_tin, read_triangle};
 
 // How a record's own lists are read: a walk of geometry_reader.rs that looks at no part.
-#[derive(Drop)]
+#[derive(Clone, Copy)]
 pub enum Own {
     Point,
     Line { kind: u8, tagged: bool },
@@ -29,7 +29,7 @@ pub enum Own {
 }
 
 // Where a list begins and ends in its pool.
-#[derive(Drop)]
+#[derive(Clone, Copy)]
 struct Bounds {
     start: usize,
     end: usize,

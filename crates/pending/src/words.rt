@@ -1,7 +1,7 @@
 // The words that belong to no part yet.
 
 // A stretch of one pool's words.
-#[derive(Drop)]
+#[derive(Clone, Copy)]
 pub struct Words {
     pub start: u32,
     pub count: u32,
@@ -20,7 +20,7 @@ impl Words {
 }
 
 // The words of each pool that belong to no part yet; the words before them belong to the parts.
-#[derive(Drop)]
+#[derive(Clone, Copy)]
 pub struct Pending {
     pub xy: Words,
     pub ends: Words,

@@ -35,4 +35,4 @@ plain = record { z = false; m = false; t = false; tm = false }
 
 -- its events: without flags a pair is kind 64
 unfoldable pub planar_events : (n : ℕ) → Geometry n → List Event
-planar_events n g = Told.eventsOf plain n (geometry_in n g)
+planar_events n g = Told.events_of plain n (geometry_in n g)

@@ -3,7 +3,7 @@ use Rattle.std.specs.Prelude.{◌≡◌, refl, true, false, List, [], ◌∷◌,
 use Rattle.laws.specs.Script.{out, run, put, room_at}
 use Rattle.laws.specs.Cut.{said}
 use Rattle.event_layout.specs.Value.{value_bytes}
-use Rattle.log.specs.Values.{values}
+use Rattle.event_log.specs.Values.{values}
 use Rattle.utf8.specs.declared.Bad.TheVariants.{At}
 use Rattle.utf8.specs.Utf8.{BadIs, has, row_of, begins, char_length, first_bad, is_utf8}
 use Rattle.property_value.specs.Column.{width_of, is_text}

@@ -8,7 +8,7 @@ use Rattle.std.proofs.lemmas.Bool.{lt-leb}
 use Rattle.laws.specs.Every.{never, both}
 use Rattle.laws.specs.Bytes.{word_at}
 use Rattle.laws.specs.Cut.{number_of, records_of, room_of, Said}
-use Rattle.log.specs.Values.{values}
+use Rattle.event_log.specs.Values.{values}
 use Rattle.utf8.specs.declared.Bad.TheVariants.{At}
 use Rattle.utf8.specs.Utf8.{first_bad, BadIs}
 use Rattle.property_value.specs.Column.{is_text}

@@ -12,7 +12,7 @@ use Rattle.laws.specs.Bytes.{word_at, Bytes, unle_lt, part_bytes}
 use Rattle.laws.specs.Script.{Script, stop, say, out, run}
 use Rattle.laws.specs.Cut.{number_of, records_of, room_of, said}
 use Rattle.kinds.specs.declared.value.Value.{Value}
-use Rattle.log.specs.Values.{values}
+use Rattle.event_log.specs.Values.{values}
 use Rattle.property_reader.specs.declared.item.Item.{Item}
 use Rattle.property_reader.specs.declared.item.Item.TheVariants.{End, Refused, NotUtf8, Skipped, Found}
 use Rattle.property_reader.specs.Reading.{item_at, on_item, on_up_to, on_from, on_bytes, end_script, end_place, keep_place, reading, bad_in, says, stopped}

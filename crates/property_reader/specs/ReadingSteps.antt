@@ -6,7 +6,7 @@ use borrow.Author.Tests.{ltb-true, ltb-false, eq-eqb, ne_eqb}
 use Rattle.laws.specs.Bytes.{word_at, part_cons}
 use Rattle.laws.specs.Script.{Script, stop, say, one, out, run, run_stop, ◌⨟◌, seq_done, seq_refused, one_nine}
 use Rattle.kinds.specs.declared.value.Value.{Value}
-use Rattle.log.specs.Values.{values}
+use Rattle.event_log.specs.Values.{values}
 use Rattle.property_value.specs.Value.{placed}
 use Rattle.property_value.specs.ValueLaws.{not-placed}
 use Rattle.property_reader.specs.declared.item.Item.{Item}

@@ -11,7 +11,7 @@ use property_value::{bad_text, width, word_of};
 use utf8::Bad;
 
 // A text that is not UTF-8 has the place of its first bad byte, counted from its own first; a value is found with the place after it.
-#[derive(Drop)]
+#[derive(Clone, Copy)]
 pub enum Item {
     End,
     Refused(u8),

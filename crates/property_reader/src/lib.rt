@@ -3,18 +3,18 @@ mod item;
 
 ghost use Rattle.std.specs.Prelude.{◌≡◌, false};
 ghost use Rattle.laws.specs.Script.{out, run};
-ghost use Rattle.log.specs.Values.{values};
+ghost use Rattle.event_log.specs.Values.{values};
 ghost use Rattle.property_value.specs.Value.{placed};
 ghost use Rattle.property_reader.specs.Reading.{properties_from, bad_from, reading, bad_in, stopped};
 
 use item::{Item, item_at};
 use kinds::refusal;
-use log::say_value;
+use event_log::say_value;
 use property_value::usable_length;
 
 // The answer's number and count of log records; whether the reading stopped after the column that the caller named; and with 6 the place
 // of the refused text's first bad byte, counted from the text's first, with any other number 0.
-#[derive(Drop)]
+#[derive(Clone, Copy)]
 pub struct PropertiesRead {
     pub number: u8,
     pub count: usize,

@@ -13,7 +13,7 @@ use utf8::Bad;
 
 // The refusal's number, 0 where the property was written; how many bytes of the buffer are used then; and with 6 the place of the text's
 // first bad byte, counted from the text's first, with any other number 0.
-#[derive(Drop)]
+#[derive(Clone, Copy)]
 pub struct PropertyPut {
     pub number: u8,
     pub used: u32,

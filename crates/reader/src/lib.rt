@@ -3,7 +3,7 @@ ghost use Rattle.std.specs.Prelude.{◌≡◌, cond, ◌<◌, eqb};
 ghost use Rattle.laws.specs.Script.{out, run};
 ghost use Rattle.laws.specs.Cut.{Said};
 ghost use Rattle.store.specs.Lists.{pools_of, parts_of, lists_of, record_with};
-ghost use Rattle.log.specs.Log.{events};
+ghost use Rattle.event_log.specs.Log.{events};
 ghost use Rattle.own_lists.specs.Own.{InPools};
 ghost use Rattle.reader.specs.Reading.{span_s, read_s};
 ghost use Rattle.walks.specs.Walks.{Typed};
@@ -88,7 +88,7 @@ fn read_geometrycollection(
             count,
         };
     };
-    let b = log::say(log, feature, count, Event::begin(kind, false, size, idx));
+    let b = event_log::say(log, feature, count, Event::begin(kind, false, size, idx));
     if b.number != refusal::DONE {
         return b;
     }
@@ -105,7 +105,7 @@ fn read_geometrycollection(
         said = r.count;
         i += 1;
     }
-    log::say(log, feature, said, Event::end(kind, false, idx))
+    event_log::say(log, feature, said, Event::end(kind, false, idx))
 }
 
 // The record n as part idx: one level below the record that has it.

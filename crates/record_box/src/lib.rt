@@ -13,7 +13,7 @@ use kinds::geometry::{Judged, Lent, Lone, Span};
 use kinds::{refusal, usable};
 use tree_walk::{Marks, NONE, is_clear, parts_of};
 
-#[derive(Drop)]
+#[derive(Clone, Copy)]
 pub struct Boxed {
     pub number: u8,
     pub bbox: Box,

@@ -4,7 +4,7 @@ use crate::tally::Tally;
 use crate::{difference, tally};
 use numbers::u32_at;
 
-#[derive(Drop)]
+#[derive(Clone, Copy)]
 enum Frame {
     Length(usize),
     End,
@@ -12,7 +12,7 @@ enum Frame {
     Cut,
 }
 
-#[derive(Drop)]
+#[derive(Clone, Copy)]
 pub enum Next {
     // A case's length. It stands at the room's start.
     Case(usize),

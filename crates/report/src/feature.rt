@@ -7,7 +7,7 @@ use console::{end_line, say, say_number, say_refusal, say_word, show_map};
 use kinds::answer::Answer;
 use kinds::refusal;
 
-#[derive(Drop)]
+#[derive(Clone, Copy)]
 pub struct Feature {
     // As people count.
     pub ordinal: u64,
@@ -20,7 +20,7 @@ pub struct Feature {
 }
 
 // How many properties a feature was given, how many bytes they take, and how many columns there are.
-#[derive(Drop)]
+#[derive(Clone, Copy)]
 pub struct Properties {
     pub given: usize,
     pub bytes: usize,

@@ -1,5 +1,5 @@
 // The first records or bytes of a row.
-use log::{EVENT_BYTES, VALUE_BYTES};
+use event_log::{EVENT_BYTES, VALUE_BYTES};
 
 // The first bytes of a row, as far as it has them.
 pub fn first(row: &[u8], count: usize) -> &[u8] {

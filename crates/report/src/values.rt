@@ -8,7 +8,7 @@ use console::{
 };
 use kinds::column_type;
 use kinds::value::Value;
-use log::VALUE_BYTES;
+use event_log::VALUE_BYTES;
 use numbers::{u16_at, u32_at, u64_at};
 
 fn value_of(bytes: &[u8]) -> Value

@@ -4,7 +4,7 @@ use compared::{comes_back, common};
 use console::{end_line, say, say_count, say_record, say_refusal};
 use kinds::answer::Answer;
 use kinds::{geometry_type, refusal};
-use log::EVENT_BYTES;
+use event_log::EVENT_BYTES;
 
 // So many events of a feature are kept to be compared.
 pub const KEPT: usize = 16384;

@@ -8,8 +8,8 @@ use Rattle.laws.specs.Every.{never, both}
 use Rattle.kinds.specs.Event.{WellFormed, is_tagged_type}
 use Rattle.kinds.specs.declared.event.Event.{Event}
 use Rattle.kinds.specs.declared.geometry.Lent.{Lent}
-use Rattle.log.specs.Log.{heard}
-use Rattle.log.specs.LogLaws.{HeardPair, HeardCoordinate, HeardQuiet}
+use Rattle.event_log.specs.Log.{heard}
+use Rattle.event_log.specs.LogLaws.{HeardPair, HeardCoordinate, HeardQuiet}
 use Rattle.asking.specs.declared.ask.Added.{Added}
 use Rattle.asking.specs.declared.ask.Ask.{Ask}
 use Rattle.asking.specs.declared.set_type.Typed.{Typed}

@@ -11,8 +11,8 @@ use Rattle.kinds.specs.Lanes.{xyL, endsL, zL, mL, tL, tmL}
 use Rattle.kinds.specs.declared.event.Event.{Event}
 use Rattle.kinds.specs.declared.geometry.Lent.{Lent}
 use Rattle.store.specs.Lists.{pools_of, lent_of}
-use Rattle.log.specs.Log.{heard, feature_in, record_of, records_in}
-use Rattle.log.specs.LogLaws.{HeardPair, HeardCoordinate, HeardQuiet}
+use Rattle.event_log.specs.Log.{heard, feature_in, record_of, records_in}
+use Rattle.event_log.specs.LogLaws.{HeardPair, HeardCoordinate, HeardQuiet}
 use Rattle.store.specs.Records.{records_lent}
 use Rattle.asking.specs.declared.ask.Added.{Added}
 use Rattle.runs.specs.declared.run.Reached.{Reached}

@@ -14,7 +14,7 @@ use pending::room::lane_room;
 use pending::words::{Pending, Words};
 
 // Why a run goes no further.
-#[derive(Drop)]
+#[derive(Clone, Copy)]
 pub enum Stop {
     // There is no whole record left.
     End,
@@ -27,7 +27,7 @@ pub enum Stop {
 }
 
 // How far a run goes: up to a record, and what is pending there.
-#[derive(Drop)]
+#[derive(Clone, Copy)]
 pub struct Reached {
     pub taken: usize,
     pub pending: Pending,
@@ -104,8 +104,8 @@ pub fn take_plain(
     while taken < whole {
         let begin = 64 * taken;
         let end = begin + 64;
-        let own = log::feature_in(&bytes[begin..end]) == held;
-        let heard = log::hear(&bytes[begin..end]);
+        let own = event_log::feature_in(&bytes[begin..end]) == held;
+        let heard = event_log::hear(&bytes[begin..end]);
         match heard {
             Heard::Pair { x, y } => {
                 if !(own & ready) {

@@ -2,7 +2,7 @@
 use kinds::answer::Answer;
 use kinds::event::{Event, Heard};
 use kinds::refusal;
-use log::EVENT_BYTES;
+use event_log::EVENT_BYTES;
 use replay::{bytes_from, difference, first, number, past, unless, word};
 
 // Where the parts of a case stand.
@@ -35,12 +35,12 @@ fn feature_of(event: &[u8]) -> usize {
     if event.len() != EVENT_BYTES {
         return 0;
     }
-    log::feature_in(event) as usize
+    event_log::feature_in(event) as usize
 }
 
 pub fn heard(case: &[u8]) -> u8 {
     let event = bytes_from(case, HEARD_EVENT);
-    let heard = log::hear(event);
+    let heard = event_log::hear(event);
     unless(number_of(heard) == number(case, NUMBER), difference::NUMBER)
         | unless(
             feature_of(event) == number(case, FEATURE),
@@ -81,7 +81,7 @@ fn event_of(record: &[u8]) -> Event {
 }
 
 fn say(log: &mut [u8], feature: u32, e: Event, case: &[u8]) -> u8 {
-    let answer = log::say(log, feature, word(case, COUNT) as usize, e);
+    let answer = event_log::say(log, feature, word(case, COUNT) as usize, e);
     differences(answer, log, case)
 }
 

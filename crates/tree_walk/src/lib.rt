@@ -8,7 +8,7 @@ use kinds::geometry::Span;
 use kinds::usable;
 
 // Consecutive records, so many from a number on.
-#[derive(Drop)]
+#[derive(Clone, Copy)]
 pub struct Parts {
     pub first: usize,
     pub count: u32,

@@ -1,7 +1,7 @@
 // The triangles of a record: one for each of its lines.
 ghost use Rattle.std.specs.Prelude.{◌≡◌, ◌≤◌, length};
 ghost use Rattle.laws.specs.Script.{out, run};
-ghost use Rattle.log.specs.Log.{events};
+ghost use Rattle.event_log.specs.Log.{events};
 ghost use Rattle.coords.specs.Seen.{coords_in};
 ghost use Rattle.lines.specs.Lines.{triangle_at, triangles_s, triangle_s, tin_s};
 
@@ -30,7 +30,7 @@ fn read_triangle_at(
     ensures { let C = coords_in seen xy.now z.now m.now t.now tm.now in
         run (events feature) (triangle_at C tagged before end idx) log.old count ≡ out result.number result.count log.new }
 {
-    let b = log::say(
+    let b = event_log::say(
         log,
         feature,
         count,
@@ -45,7 +45,7 @@ fn read_triangle_at(
     if r.number != refusal::DONE {
         return r;
     }
-    log::say(
+    event_log::say(
         log,
         feature,
         r.count,
@@ -144,7 +144,7 @@ pub fn read_tin(
         run (events feature) (tin_s C ends.now idx) log.old count ≡ out result.number result.count log.new }
 {
     let size = lines::stretches(ends.len());
-    let b = log::say(
+    let b = event_log::say(
         log,
         feature,
         count,
@@ -157,7 +157,7 @@ pub fn read_tin(
     if r.number != refusal::DONE {
         return r;
     }
-    log::say(
+    event_log::say(
         log,
         feature,
         r.count,

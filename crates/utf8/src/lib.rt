@@ -3,7 +3,7 @@ ghost use Rattle.std.specs.Prelude.{◌≡◌, ◌≤◌, ◌<◌, ◌+◌, leng
 ghost use Rattle.utf8.specs.Utf8.{◌‥◌, has, tail, tails, second, row_of, begins, char_length, BadIs};
 
 // Where bytes cease to be text.
-#[derive(Drop)]
+#[derive(Clone, Copy)]
 pub enum Bad {
     Nowhere,
     At(usize),

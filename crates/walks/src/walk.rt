@@ -7,7 +7,7 @@ use own_lists::Own;
 
 // How a part is read: a collection's by its type, a MultiPolygon's as a polygon whatever its type, and a curve's by
 // its type and the type of the record above it.
-#[derive(Drop)]
+#[derive(Clone, Copy)]
 pub enum Role {
     Geometry,
     Polygon,
@@ -15,7 +15,7 @@ pub enum Role {
 }
 
 // A record's own lists, or a begin and an end of a type with the parts between, or a refusal.
-#[derive(Drop)]
+#[derive(Clone, Copy)]
 pub enum Walk {
     Own(Own),
     Parts { kind: u8, role: Role },

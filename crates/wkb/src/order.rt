@@ -4,7 +4,7 @@ ghost use Rattle.laws.specs.Bytes.{word_at};
 ghost use Rattle.wkb.specs.Order.{big_at, value_at};
 
 // How a geometry's numbers lie in bytes.
-#[derive(Drop)]
+#[derive(Clone, Copy)]
 pub enum Order {
     // XDR: the highest byte first.
     Big,

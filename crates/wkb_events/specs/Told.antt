@@ -1,7 +1,7 @@
 -- What a record was told to be: which event the machine has of it.
 use Rattle.std.specs.Prelude.{◌≡◌, refl, Bool, true, false, ◌&&◌, List, ℕ, ◌-◌, ◌<◌, ◌≤◌, eqb, leb}
 use Rattle.std.proofs.Common.{sym, ap, ◌∙◌, arith, leb-true, le-leb, ne_eqb}
-use Rattle.std.proofs.Math.Bool.{and_false}
+use Rattle.std.proofs.Math.Bool.{and-false}
 use Rattle.std.proofs.lemmas.Bool.{lt-leb}
 use Rattle.laws.specs.Every.{never, both}
 use Rattle.kinds.specs.Event.{Parsed, WellFormed, Malformed as Unheard, told_apart, BareOf, is_event}
@@ -9,9 +9,9 @@ use Rattle.kinds.specs.declared.event.Bare.{Bare}
 use Rattle.kinds.specs.declared.event.Bare.TheVariants.{Pair as BarePair, Other as BareOther}
 use Rattle.kinds.specs.declared.event.Heard.{Heard}
 use Rattle.kinds.specs.declared.event.Heard.TheVariants.{Pair as XyPair, Coordinate, Quiet, Other, Malformed as NoEvent}
-use Rattle.log.specs.LogLaws.{behind}
+use Rattle.event_log.specs.LogLaws.{behind}
 use Rattle.kinds.specs.declared.event.Event.{Event as Flat}
-use Rattle.log.specs.Log.{heard, feature_in}
+use Rattle.event_log.specs.Log.{heard, feature_in}
 use Rattle.nesting.specs.Events.{GeometryType, Event, begin, end, pair, strange}
 use Rattle.nesting.specs.Rules.{limit64}
 use Rattle.nesting.specs.Machine.{number, numbered}
@@ -78,7 +78,7 @@ pub is-begin : (e : Flat) → is_type e.kind ≡ true → BeginIn e e.kind e.tag
 is-begin e h = record { type = numbered e.kind; named = sym (number-numbered e.kind h); reads = type_begins e (is_type e.kind) h (is_type (e.kind - 32)) (eqb e.kind 64) }
 
 above : (n : ℕ) → 7 < n → is_type n ≡ false
-above n h = rw (lt-leb n 7 h) (and_false (leb 1 n))
+above n h = rw (lt-leb n 7 h) (and-false (leb 1 n))
 
 in_range : (n : ℕ) → 1 ≤ n → n ≤ 7 → is_type n ≡ true
 in_range n h k = rw (le-leb 1 n h, le-leb n 7 k)

@@ -2,12 +2,12 @@
 ghost use Rattle.std.specs.Prelude.{◌≡◌, eqb, length};
 ghost use Rattle.kinds.specs.declared.event.Event.{Event as Flat};
 ghost use Rattle.kinds.specs.Event.{WellFormed};
-ghost use Rattle.log.specs.Log.{heard, feature_in};
+ghost use Rattle.event_log.specs.Log.{heard, feature_in};
 ghost use Rattle.wkb_events.specs.Told.{SortedOf, ToldOf};
 
 use kinds::event::Event;
 
-#[derive(Drop)]
+#[derive(Clone, Copy)]
 pub enum Told {
     Pair {
         idx: u32,
@@ -62,8 +62,8 @@ fn event_told(bytes: &[u8], feature: u32) -> Told
     requires { length bytes.now ≡ 64 }
     ensures { (e : Flat) → heard bytes.now ≡ WellFormed e → SortedOf (eqb (feature_in bytes.now) feature) e result }
 {
-    let own = log::feature_in(bytes) == feature;
-    sorted(own, log::event_in(bytes))
+    let own = event_log::feature_in(bytes) == feature;
+    sorted(own, event_log::event_in(bytes))
 }
 
 // A record, where the list is of this feature.
@@ -71,7 +71,7 @@ pub fn hear(bytes: &[u8], feature: u32) -> Told
     requires { length bytes.now ≡ 64 }
     ensures { ToldOf bytes.now feature result }
 {
-    if !log::is_event(bytes) {
+    if !event_log::is_event(bytes) {
         return Told::Malformed;
     }
     event_told(bytes, feature)

@@ -18,7 +18,7 @@ const LEVELS: usize = 16;
 
 // `height` geometries are open, and `highest` were at most. `deep`: one that has members stood at the last level. `rings`, `points`: a line,
 // or a pair, that comes next is a ring, or a Point, if it is one that has no tag. `length`: so many bytes.
-#[derive(Drop)]
+#[derive(Clone, Copy)]
 pub struct Walk {
     pub height: usize,
     pub highest: usize,

@@ -5,7 +5,7 @@ use Rattle.std.proofs.Math.Option.{none}
 use Rattle.std.proofs.Math.Decide.{dec_lt}
 use Rattle.kinds.specs.Event.{WellFormed}
 use Rattle.kinds.specs.declared.event.Event.{Event as Flat}
-use Rattle.log.specs.Log.{heard, feature_in, record_of, records_in}
+use Rattle.event_log.specs.Log.{heard, feature_in, record_of, records_in}
 use Rattle.nesting.specs.Events.{Event}
 use Rattle.nesting.specs.Machine.{Frame, State, within, start, taken, refused, step}
 use Rattle.nesting.specs.Flat.{read}

@@ -3,7 +3,7 @@ use Rattle.std.specs.Prelude.{◌≡◌, refl, Bool, true, cond, ◌&&◌, List,
 use Rattle.std.proofs.Common.{sym, ap, ◌∙◌, subst, arith, lt-ltb, eq-eqb}
 use Rattle.std.proofs.Math.Decide.{dec_lt}
 use Rattle.kinds.specs.Event.{OwnPair, xy_e}
-use Rattle.log.specs.Log.{heard, feature_in, record_of}
+use Rattle.event_log.specs.Log.{heard, feature_in, record_of}
 use Rattle.nesting.specs.Rules.{limit64}
 use Rattle.nesting.specs.Machine.{Frame, frame, of_pairs, one_more, pair_fits}
 use Rattle.nesting.specs.Tests.{five}

@@ -2,11 +2,11 @@
 -- whole ones, comes to.
 use Rattle.std.specs.Prelude.{◌≡◌, refl, Bool, true, not, ◌&&◌, List, [], map, ℕ, ◌+◌, ◌/◌, ◌<◌, ◌≤◌, length}
 use Rattle.std.proofs.Common.{sym, ap, ◌∙◌, subst, arith}
-use Rattle.std.proofs.Math.Bool.{and_false}
+use Rattle.std.proofs.Math.Bool.{and-false}
 use Rattle.std.proofs.Math.Option.{Option, some}
 use Rattle.std.proofs.Math.Decide.{dec_lt}
 use Rattle.kinds.specs.declared.event.Event.{Event as Flat}
-use Rattle.log.specs.Log.{records_in}
+use Rattle.event_log.specs.Log.{records_in}
 use Rattle.nesting.specs.Machine.{State, start}
 use Rattle.nesting.specs.Flat.{read}
 use Rattle.nesting.specs.Levels.{any_depth, sixteen}
@@ -81,4 +81,4 @@ pub none_nested : (bytes : List ℕ) → length bytes ≡ 0 → Faulty bytes
 unfolding listed nested
 none_nested bytes h =
     let e : records_in bytes ≡ 0 = omega arith in
-    record { events = []; listing = ap (λ (n : ℕ). listed n 0 bytes) e; bad = and_false (one_feature bytes) }
+    record { events = []; listing = ap (λ (n : ℕ). listed n 0 bytes) e; bad = and-false (one_feature bytes) }

@@ -7,8 +7,8 @@ use Prim.Native.Nat.{ℕ, zero, suc, ◌+◌, ◌-◌, ◌*◌, ◌/◌, ◌%◌
 use native.Mathlib.Omega.{arith}
 use Rattle.kinds.specs.Event.{Parsed, WellFormed, Malformed}
 use Rattle.kinds.specs.declared.event.Event.{Event as Flat}
-use Rattle.log.specs.Log.{heard, feature_in, record_of, records_in}
-use Rattle.log.specs.LogLaws.{not_whole}
+use Rattle.event_log.specs.Log.{heard, feature_in, record_of, records_in}
+use Rattle.event_log.specs.LogLaws.{not_whole}
 use Rattle.wkb_written.specs.Writing.{before, listed, alike, events_in}
 
 -- events put before those that are listed, if any are

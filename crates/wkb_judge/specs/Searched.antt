@@ -4,7 +4,7 @@ use Rattle.std.proofs.Common.{ap, ◌∙◌, arith}
 use Rattle.std.proofs.Math.Option.{none}
 use Rattle.laws.specs.Branch.{is_true, is_false}
 use Rattle.kinds.specs.declared.event.Event.{Event as Flat}
-use Rattle.log.specs.Log.{heard, records_in}
+use Rattle.event_log.specs.Log.{heard, records_in}
 use Rattle.wkb_written.specs.Writing.{listed}
 use Rattle.kinds.specs.Event.{is_event}
 use Rattle.wkb_events.specs.Told.{is-event, no_event}

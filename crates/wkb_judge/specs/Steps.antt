@@ -1,14 +1,14 @@
 -- Each turn of a pass, from what the code asked and was told.
 use Rattle.std.specs.Prelude.{◌≡◌, refl, Bool, true, false, not, cond, ◌&&◌, ◌||◌, List, [], ◌∷◌, map, ℕ, suc, ◌+◌, ◌-◌, ◌*◌, ◌/◌, ◌%◌, ◌<◌, ◌≤◌, eqb, ltb, length, take, drop, get_or, set}
 use Rattle.std.proofs.Common.{sym, ap, ◌∙◌, subst, arith, ltb-true, lt-ltb, eqb-true, ne_eqb}
-use Rattle.std.proofs.Math.Bool.{and_false}
+use Rattle.std.proofs.Math.Bool.{and-false}
 use Rattle.std.proofs.Math.Option.{none, some}
 use Rattle.std.proofs.Math.Nat.{sub-zero}
 use Rattle.std.proofs.lemmas.Bool.{eqb-false, not-true, not-false}
 use Rattle.laws.specs.Every.{never, both, other, neither}
 use Rattle.kinds.specs.Event.{Malformed as Unheard, WellFormed}
 use Rattle.kinds.specs.declared.event.Event.{Event as Flat}
-use Rattle.log.specs.Log.{heard, feature_in, record_of, records_in}
+use Rattle.event_log.specs.Log.{heard, feature_in, record_of, records_in}
 use Rattle.nesting.specs.Events.{GeometryType, Event, begin, end, pair, strange}
 use Rattle.nesting.specs.Rules.{limit64}
 use Rattle.nesting.specs.Machine.{Frame, frame, outside, State, within, start, taken, refused, number, count, of_pairs, one_more, end_fits, pair_fits, place, step}
@@ -68,7 +68,7 @@ module _ {bytes : List ℕ} {low feature i : ℕ} {w : Walk} {top : Held} {store
 
   -- one that the machine refuses
   refused_at : (e : Flat) (v : Event) → heard (record_of bytes i) ≡ WellFormed e → read e ≡ v → ((f : Frame) (fs : List Frame) → On low a.puts w top stored f fs → Refused (step any_depth (within f fs) v)) → (r : Pass) → LaterOf bytes (i + 1) r → PassOf bytes low r
-  refused_at e v is reads stops = fault_at e is (λ l. ap (λ (b : Bool). alike (records_in bytes) 0 bytes feature && b) (falls a.stands l) ∙ and_false (alike (records_in bytes) 0 bytes feature))
+  refused_at e v is reads stops = fault_at e is (λ l. ap (λ (b : Bool). alike (records_in bytes) 0 bytes feature && b) (falls a.stands l) ∙ and-false (alike (records_in bytes) 0 bytes feature))
     where
       falls : Stands low a.puts w top stored → (l : List Flat) → nested any_depth (a.puts (e ∷ l)) ≡ false
       falls (on f fs o) l = refused_here o e v reads (stops f fs o) l
@@ -254,7 +254,7 @@ module _ {bytes : List ℕ} {low feature i : ℕ} {w : Walk} {top : Held} {store
       record {
         events = a.puts [];
         listing = all_listed;
-        bad = ap (λ (b : Bool). one_feature bytes && b) (nested-course any_depth (a.puts []) ∙ falls (eqb-true low 0 t.0) (not-true (eqb w.height 0 && eqb top.done 1) t.1) a.stands) ∙ and_false (one_feature bytes);
+        bad = ap (λ (b : Bool). one_feature bytes && b) (nested-course any_depth (a.puts []) ∙ falls (eqb-true low 0 t.0) (not-true (eqb w.height 0 && eqb top.done 1) t.1) a.stands) ∙ and-false (one_feature bytes);
       }
     where
       falls : low ≡ 0 → (eqb w.height 0 && eqb top.done 1) ≡ false → Stands low a.puts w top stored → closes (course any_depth (map read (a.puts [])) start) ≡ false

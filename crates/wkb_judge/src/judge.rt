@@ -4,7 +4,7 @@ ghost use Rattle.std.specs.Prelude.{◌≡◌, ◌%◌, ◌<◌, length};
 ghost use Rattle.wkb_judge.specs.Passing.{SlotOf, LaterOf, PassOf, Passed, JudgedOf};
 
 use crate::pairs::pairs_inside;
-use log::EVENT_BYTES;
+use event_log::EVENT_BYTES;
 use nesting::Frame;
 use wkb_events::{Told, WKB, Walk, hear};
 
@@ -25,7 +25,7 @@ const UNKEPT: Frame = Frame {
 };
 
 // What one pass finds out. `Sound`: no fault at the heights of its window.
-#[derive(Drop)]
+#[derive(Clone, Copy)]
 pub enum Pass {
     Malformed,
     Fault,
@@ -37,7 +37,7 @@ pub enum Pass {
 }
 
 // What all passes find out. `deep`: some geometry stands deeper than level 16. `length`: so many bytes of well-known binary.
-#[derive(Drop)]
+#[derive(Clone, Copy)]
 pub enum Judged {
     Malformed,
     NotNested,
@@ -67,7 +67,7 @@ fn fault(events: &[u8], from: usize) -> Pass
     while i < whole {
         let begin = EVENT_BYTES * i;
         let end = begin + EVENT_BYTES;
-        if !log::is_event(&events[begin..end]) {
+        if !event_log::is_event(&events[begin..end]) {
             return Pass::Malformed;
         }
         i += 1;
@@ -81,7 +81,7 @@ fn judge(events: &[u8], low: usize) -> Pass
     ensures { PassOf events.now low result }
 {
     let whole = events.len() / EVENT_BYTES;
-    let feature = log::feature_in(&events[0..EVENT_BYTES]);
+    let feature = event_log::feature_in(&events[0..EVENT_BYTES]);
     let mut top = Frame::outside();
     let mut stored = [UNKEPT; SLOTS];
     let mut walk = Walk::start();

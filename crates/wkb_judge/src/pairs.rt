@@ -3,7 +3,7 @@
 ghost use Rattle.std.specs.Prelude.{◌/◌, ◌≤◌, length};
 ghost use Rattle.wkb_judge.specs.Inside.{Inside};
 
-use log::EVENT_BYTES;
+use event_log::EVENT_BYTES;
 use nesting::Frame;
 
 fn lesser(left: usize, size: u32) -> u32
@@ -30,7 +30,7 @@ pub fn pairs_inside(events: &[u8], from: usize, feature: u32, frame: Frame) -> u
     while idx < last {
         let begin = EVENT_BYTES * next;
         let end = begin + EVENT_BYTES;
-        if !log::is_pair(&events[begin..end], feature, idx) {
+        if !event_log::is_pair(&events[begin..end], feature, idx) {
             break;
         }
         next += 1;

@@ -5,7 +5,7 @@ use Rattle.laws.specs.Cut.{bytes_of}
 use Rattle.kinds.specs.Event.{begin_e, end_e, xy_e, coordinate_e, well_formed}
 use Rattle.kinds.specs.declared.event.Event.{Event}
 use Rattle.event_layout.specs.Event.{event_bytes, event_of, feature_of, spare_zero, read_event}
-use Rattle.log.specs.Log.{events, heard, feature_in}
+use Rattle.event_log.specs.Log.{events, heard, feature_in}
 use Rattle.wkb_written.specs.Spelling.{spelled}
 use Rattle.wkb_written.specs.Writing.{listed, alike, nested, Written, refused_with, written_of, writing}
 

@@ -10,7 +10,7 @@ use borrow.Author.Tests.{leb-true, leb-false, le-leb, lt-leb}
 use Rattle.laws.specs.Every.{both, never}
 use Rattle.laws.specs.Cut.{number_of}
 use Rattle.kinds.specs.declared.event.Event.{Event}
-use Rattle.log.specs.Log.{records_in}
+use Rattle.event_log.specs.Log.{records_in}
 use Rattle.geometries.specs.Told.{told-number}
 use Rattle.planar.specs.Within.{planar_events}
 use Rattle.planar.specs.Levels.{levels}

@@ -14,7 +14,7 @@ use Rattle.laws.specs.Bytes.{Bytes, part_bytes}
 use Rattle.laws.specs.Cut.{bytes_of}
 use Rattle.kinds.specs.Event.{Parsed, WellFormed, Malformed}
 use Rattle.kinds.specs.declared.event.Event.{Event}
-use Rattle.log.specs.Log.{events, heard, feature_in, hear_said, feature-said, said-heard, record_of, records_in}
+use Rattle.event_log.specs.Log.{events, heard, feature_in, hear_said, feature-said, said-heard, record_of, records_in}
 use Rattle.planar.specs.Fits.{Each}
 use Rattle.wkb_written.specs.Writing.{before, listed, alike, events_in, one_feature}
 use Rattle.wkb_written.specs.Sized.{Sized}

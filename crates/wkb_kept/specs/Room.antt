@@ -5,7 +5,7 @@ use Rattle.std.proofs.Math.Option.{Option, none, some}
 use Rattle.laws.specs.Bytes.{le}
 use Rattle.kinds.specs.Event.{Parsed, WellFormed, Malformed}
 use Rattle.kinds.specs.declared.event.Event.{Event}
-use Rattle.log.specs.Log.{heard, record_of, records_in}
+use Rattle.event_log.specs.Log.{heard, record_of, records_in}
 use Rattle.nesting.specs.Events.{GeometryType, Point, LineString, Polygon, MultiPoint, MultiLineString, MultiPolygon, Collection, Event as Read, begin, end, pair, strange}
 use Rattle.nesting.specs.Flat.{read}
 use Rattle.wkb_written.specs.Spelling.{Around, outermost, head_bytes, pair_of, after, begin_bytes, bytes_of, spelled}

@@ -101,7 +101,7 @@ simple_deep left (line_string l) o fits deep i = absurd (omega arith)
 simple_deep left (polygon rs) o fits deep i = absurd (omega arith)
 simple_deep left (multi_point cs) os fits deep i =
     head-deep os.0 1 7 4 _ (lit< tt) refl
-    (group-deep FitsCoord own alone left wkb_point (member_r left 1) (λ c. Told.coordOf plain (coord_in c)) (point-member left) (λ c o fits. member-deep left 1 o (pair_bytes o c) (lit< tt) refl) os.0 4 false cs os.1 fits deep i)
+    (group-deep FitsCoord own alone left wkb_point (member_r left 1) (λ c. Told.coord_of plain (coord_in c)) (point-member left) (λ c o fits. member-deep left 1 o (pair_bytes o c) (lit< tt) refl) os.0 4 false cs os.1 fits deep i)
 simple_deep left (multi_line_string ls) os fits deep i =
     head-deep os.0 1 7 5 _ (lit< tt) refl
     (group-deep FitsLine own alone left wkb_line_string (member_r left 2) (λ l. Told.line_of plain (line_in l)) (line-member left) (λ l o fits. member-deep left 2 o (ring_bytes o l) (lit< tt) refl) os.0 5 false ls os.1 fits deep i)
@@ -116,7 +116,7 @@ geometry_deep (suc left) zero s os fits deep i = simple_deep left s os fits deep
 geometry_deep (suc left) (suc n) (simple s) os fits deep i = simple_deep left s os fits deep i
 geometry_deep (suc left) (suc n) (collection gs) os fits deep i =
     head-deep os.0 1 7 7 _ (lit< tt) refl
-    (group-deep (Fits n) (Orders n) (levels n) left (wkb n) (geometry_r left) (λ g. Told.geometryOf plain n (geometry_in n g)) (geometry_says left n) (geometry_deep left n) os.0 7 false gs os.1 fits deep i)
+    (group-deep (Fits n) (Orders n) (levels n) left (wkb n) (geometry_r left) (λ g. Told.geometry_of plain n (geometry_in n g)) (geometry_says left n) (geometry_deep left n) os.0 7 false gs os.1 fits deep i)
 
 pub too_deep_lem : (n : ℕ) (g : Geometry n) (os : Orders n g) → Fits n g → 16 < levels n g → number_of (reading_r (wkb n g os [])) ≡ 13
 unfolding reading_r

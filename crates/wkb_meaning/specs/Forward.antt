@@ -29,19 +29,19 @@ counted-says P f R within tells one o type tagged xs ps i =
           ∙ (group-says P free (λ a o. f a) R within tells (λ a o. one a) o type tagged xs (frees xs) ps i).says l next es s h;
     }
 
-pair-says : (o : Order) (c : Coord) → FitsCoord c → (i : ℕ) → Says (pair_r o i) (pair_bytes o c) (Told.coordOf plain (coord_in c) i)
+pair-says : (o : Order) (c : Coord) → FitsCoord c → (i : ℕ) → Says (pair_r o i) (pair_bytes o c) (Told.coord_of plain (coord_in c) i)
 unfolding pair_r
 pair-says o c fits i = field-says o 8 c.x _ fits.0 (field-says o 8 c.y _ fits.1 (saying-says (xy_e c.x c.y i)))
 
-line-says : (o : Order) (tagged : Bool) (l : Line) → FitsLine l → (i : ℕ) → Says (line_r o tagged i) (ring_bytes o l) (Told.group 2 tagged (Told.coordOf plain) (line_in l) i)
+line-says : (o : Order) (tagged : Bool) (l : Line) → FitsLine l → (i : ℕ) → Says (line_r o tagged i) (ring_bytes o l) (Told.group 2 tagged (Told.coord_of plain) (line_in l) i)
 unfolding line_r
-line-says o tagged = counted-says FitsCoord (pair_bytes o) (pair_r o) coord_in (Told.coordOf plain) (pair-says o) o 2 tagged
+line-says o tagged = counted-says FitsCoord (pair_bytes o) (pair_r o) coord_in (Told.coord_of plain) (pair-says o) o 2 tagged
 
 polygon-says : (o : Order) (tagged : Bool) (rs : Rings) → FitsRings rs → (i : ℕ) → Says (polygon_r o tagged i) (counted o (ring_bytes o) rs) (Told.group 3 tagged (Told.line_of plain) (rings_in rs) i)
 unfolding polygon_r
 polygon-says o tagged = counted-says FitsLine (ring_bytes o) (line_r o false) line_in (Told.line_of plain) (line-says o false) o 3 tagged
 
-point-says : (o : Order) (c : Coord) → FitsCoord c → (i : ℕ) → Says (point_r o i) (pair_bytes o c) (Told.simpleOf plain (simple_in (point c)) i)
+point-says : (o : Order) (c : Coord) → FitsCoord c → (i : ℕ) → Says (point_r o i) (pair_bytes o c) (Told.simple_of plain (simple_in (point c)) i)
 unfolding point_r
 point-says o c fits i = then-says (saying-says (begin_e 1 false 0 i)) (then-says (pair-says o c fits 0) (saying-says (end_e 1 false i)))
 
@@ -53,7 +53,7 @@ member-says zero single o i small there deep p = absurd (omega arith)
 member-says (suc left) single o i small there deep p = head-says o single single single _ small there p
 
 module _ (left : ℕ) where
-  pub point-member : (c : Coord) (o : Order) → Within FitsCoord alone left c → (i : ℕ) → Says (member_r left 1 i) (wkb_point c o) (Told.coordOf plain (coord_in c) i)
+  pub point-member : (c : Coord) (o : Order) → Within FitsCoord alone left c → (i : ℕ) → Says (member_r left 1 i) (wkb_point c o) (Told.coord_of plain (coord_in c) i)
   unfolding part_r
   point-member c o fits i = member-says left 1 o i (lit< tt) refl fits.1 (pair-says o c fits.0 i)
 
@@ -66,14 +66,14 @@ module _ (left : ℕ) where
   polygon-member rs o fits i = member-says left 3 o i (lit< tt) refl fits.1 (polygon-says o false rs fits.0 i)
 
   -- ---- geometries
-  simple_says : (s : Simple) (os : SimpleOrders s) → FitsSimple s → simple_levels s ≤ suc left → (i : ℕ) → Says (geometry_r (suc left) i) (wkb_simple s os) (Told.simpleOf plain (simple_in s) i)
+  simple_says : (s : Simple) (os : SimpleOrders s) → FitsSimple s → simple_levels s ≤ suc left → (i : ℕ) → Says (geometry_r (suc left) i) (wkb_simple s os) (Told.simple_of plain (simple_in s) i)
   unfolding geometry_r simple_r multi_r
   simple_says (point c) o fits deep i = head-says o 1 7 1 _ (lit< tt) refl (point-says o c fits i)
   simple_says (line_string l) o fits deep i = head-says o 1 7 2 _ (lit< tt) refl (line-says o true l fits i)
   simple_says (polygon rs) o fits deep i = head-says o 1 7 3 _ (lit< tt) refl (polygon-says o true rs fits i)
   simple_says (multi_point cs) os fits deep i =
       head-says os.0 1 7 4 _ (lit< tt) refl
-      (group-says (Within FitsCoord alone left) own wkb_point (member_r left 1) coord_in (Told.coordOf plain) point-member os.0 4 false cs os.1 (row_within FitsCoord alone left cs fits deep) i)
+      (group-says (Within FitsCoord alone left) own wkb_point (member_r left 1) coord_in (Told.coord_of plain) point-member os.0 4 false cs os.1 (row_within FitsCoord alone left cs fits deep) i)
   simple_says (multi_line_string ls) os fits deep i =
       head-says os.0 1 7 5 _ (lit< tt) refl
       (group-says (Within FitsLine alone left) own wkb_line_string (member_r left 2) line_in (Told.line_of plain) line-member os.0 5 false ls os.1 (row_within FitsLine alone left ls fits deep) i)
@@ -95,14 +95,14 @@ geometry_level zero s = some_level s
 geometry_level (suc n) (simple s) = some_level s
 geometry_level (suc n) (collection gs) = omega arith
 
-pub geometry_says : (left n : ℕ) (g : Geometry n) (os : Orders n g) → Within (Fits n) (levels n) left g → (i : ℕ) → Says (geometry_r left i) (wkb n g os) (Told.geometryOf plain n (geometry_in n g) i)
+pub geometry_says : (left n : ℕ) (g : Geometry n) (os : Orders n g) → Within (Fits n) (levels n) left g → (i : ℕ) → Says (geometry_r left i) (wkb n g os) (Told.geometry_of plain n (geometry_in n g) i)
 unfolding geometry_r
 geometry_says zero n g os fits i = absurd (omega (arith, geometry_level n g, fits.1))
 geometry_says (suc left) zero s os fits i = simple_says left s os fits.0 fits.1 i
 geometry_says (suc left) (suc n) (simple s) os fits i = simple_says left s os fits.0 fits.1 i
 geometry_says (suc left) (suc n) (collection gs) os fits i =
     head-says os.0 1 7 7 _ (lit< tt) refl
-    (group-says (Within (Fits n) (levels n) left) (Orders n) (wkb n) (geometry_r left) (geometry_in n) (Told.geometryOf plain n) (geometry_says left n) os.0 7 false gs os.1 (row_within (Fits n) (levels n) left gs fits.0 fits.1) i)
+    (group-says (Within (Fits n) (levels n) left) (Orders n) (wkb n) (geometry_r left) (geometry_in n) (Told.geometry_of plain n) (geometry_says left n) os.0 7 false gs os.1 (row_within (Fits n) (levels n) left gs fits.0 fits.1) i)
 
 -- ---- the whole
 told-then : (es : List Event) → said_then es (stop 0) ≡ told es
@@ -111,12 +111,12 @@ told-then [] = refl
 told-then (e ∷ es) = ap (say e) (told-then es)
 
 pub reading-says : (n : ℕ) (g : Geometry n) (os : Orders n g) → Fits n g → levels n g ≤ 16 → reading_r (wkb n g os []) ≡ told (planar_events n g)
-unfolding reading_r planar_events Told.eventsOf said_then
+unfolding reading_r planar_events Told.events_of said_then
 reading-says n g os fits deep = (geometry_says 16 n g os (fits, deep) 0).says [] at_end [] (stop 0) refl ∙ told-then (planar_events n g)
 
 -- bytes left over are refused behind the last event, so all that they stand behind is said
 pub left_over : (n : ℕ) (g : Geometry n) (os : Orders n g) → Fits n g → levels n g ≤ 16 → (b : ℕ) (rest : List ℕ) → reading_r (wkb n g os (b ∷ rest)) ≡ said_then (planar_events n g) (stop 20)
-unfolding reading_r planar_events Told.eventsOf said_then
+unfolding reading_r planar_events Told.events_of said_then
 left_over n g os fits deep b rest = (geometry_says 16 n g os (fits, deep) 0).says (b ∷ rest) at_end [] (stop 20) (rw (eqb-suc-zero (length rest)))
 
 -- what is written is read as it was meant

@@ -3,7 +3,7 @@ use Rattle.std.specs.Prelude.{◌≡◌, Bool, not, cond, ◌&&◌, List, [], �
 use Rattle.std.proofs.Math.Option.{Option, none, some}
 use Rattle.std.proofs.lemmas.List.Edits.{sets}
 use Rattle.kinds.specs.declared.event.Event.{Event}
-use Rattle.log.specs.Log.{records_in}
+use Rattle.event_log.specs.Log.{records_in}
 use Rattle.nesting.specs.Flat.{read}
 use Rattle.wkb_written.specs.Spelling.{Around, outermost, pair_of, after, bytes_of, spelled}
 use Rattle.wkb_written.specs.Writing.{listed, events_in}

@@ -13,8 +13,8 @@ use Rattle.std.proofs.Math.Seq.{sets}
 use Rattle.laws.specs.Runs.{sets-append}
 use Rattle.kinds.specs.Event.{Parsed, WellFormed, Malformed}
 use Rattle.kinds.specs.declared.event.Event.{Event}
-use Rattle.log.specs.Log.{heard, record_of, records_in}
-use Rattle.log.specs.LogLaws.{not_whole}
+use Rattle.event_log.specs.Log.{heard, record_of, records_in}
+use Rattle.event_log.specs.LogLaws.{not_whole}
 use Rattle.nesting.specs.Flat.{is_type, read_as, read}
 use Rattle.wkb_written.specs.Spelling.{Around, outermost, pair_of, after, bytes_of, spelled}
 use Rattle.wkb_written.specs.Writing.{before, listed, events_in}

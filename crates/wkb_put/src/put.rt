@@ -5,7 +5,7 @@ ghost use Rattle.std.proofs.lemmas.List.Edits.{sets};
 ghost use Rattle.laws.specs.Bytes.{le};
 ghost use Rattle.kinds.specs.Event.{WellFormed};
 ghost use Rattle.kinds.specs.declared.event.Event.{Event};
-ghost use Rattle.log.specs.Log.{heard, record_of};
+ghost use Rattle.event_log.specs.Log.{heard, record_of};
 ghost use Rattle.nesting.specs.Flat.{is_type};
 ghost use Rattle.wkb_written.specs.Spelling.{head_bytes, pair_of};
 ghost use Rattle.wkb_written.specs.Writing.{events_in};
@@ -27,14 +27,14 @@ const PAIR_BYTES: usize = 16;
 
 // What the next event stands in: a line inside a Polygon is a ring, which has no head, and a pair inside a MultiPoint is a Point, which
 // has one.
-#[derive(Drop)]
+#[derive(Clone, Copy)]
 pub struct Around {
     pub rings: bool,
     pub points: bool,
 }
 
 // Where a run of pairs has led: the record behind it, and the place behind its bytes.
-#[derive(Drop)]
+#[derive(Clone, Copy)]
 struct Ran {
     next: usize,
     at: usize,
@@ -151,9 +151,9 @@ fn event_at(events: &[u8], i: usize) -> Event
     requires { 64 * i + 64 ≤ length events.now }
     ensures { (e : Event) → heard (record_of events.now i) ≡ WellFormed e → result ≡ e }
 {
-    let from = log::EVENT_BYTES * i;
-    let end = from + log::EVENT_BYTES;
-    log::event_in(&events[from..end])
+    let from = event_log::EVENT_BYTES * i;
+    let end = from + event_log::EVENT_BYTES;
+    event_log::event_in(&events[from..end])
 }
 
 // Lays the pairs down that the records begin with from one on, where they are no Points. Pairs are the commonest events by far, so that each is
@@ -162,7 +162,7 @@ fn put_pairs(events: &[u8], from: usize, out: &mut [u8], at: usize) -> Ran
     requires { HeardFrom events.now from × (at + length (run_bytes (events_from events.now from)) ≤ length out.old) }
     ensures { RunLaid events.now from out.old at out.new result.next result.at }
 {
-    let records = events.len() / log::EVENT_BYTES;
+    let records = events.len() / event_log::EVENT_BYTES;
     let mut next = from;
     let mut end = at;
     while next < records {
@@ -182,7 +182,7 @@ pub fn put_all(events: &[u8], out: &mut [u8])
     requires { (events_in events.now ≡ some (heard_events events.now)) × (length (spelled_of events.now) ≤ length out.old) }
     ensures { out.new ≡ sets out.old 0 (spelled_of events.now) }
 {
-    let records = events.len() / log::EVENT_BYTES;
+    let records = events.len() / event_log::EVENT_BYTES;
     let mut around = Around::OUTERMOST;
     let mut at = 0;
     let mut next = 0;

@@ -10,7 +10,7 @@ use Rattle.std.proofs.Math.Seq.{drop-drop}
 use Rattle.std.proofs.lemmas.Bool.{lt-leb}
 use Rattle.laws.specs.Script.{stop, say, one, Out, out, run, ◌⨟◌, seq_done, seq_refused, run_stop}
 use Rattle.kinds.specs.declared.event.Event.{Event}
-use Rattle.log.specs.Log.{events}
+use Rattle.event_log.specs.Log.{events}
 use Rattle.wkb.specs.Order.{value_at}
 use Rattle.wkb.specs.declared.order.Order.{Order}
 use Rattle.wkb_reader.specs.Reading.{Next, Reads, saying, refuse, ◌⊳◌, field, several}

@@ -12,7 +12,7 @@ use borrow.Author.Tests.{eq-eqb, ne_eqb}
 use Rattle.laws.specs.Script.{stop, one, out, run, run_stop}
 use Rattle.kinds.specs.Event.{begin_e, end_e, xy_e}
 use Rattle.kinds.specs.declared.event.Event.{Event}
-use Rattle.log.specs.Log.{events}
+use Rattle.event_log.specs.Log.{events}
 use Rattle.wkb.specs.Order.{value_at}
 use Rattle.wkb.specs.declared.order.Order.{Order}
 use Rattle.wkb_reader.specs.Reading.{Next, Reads, saying, refuse, ◌⊳◌, field, several, pair_r, group_r, type_r, head_r, below, part_r, member_r, simple_r, point_r, line_r, polygon_r, multi_r, geometry_r, at_end, reading_r}

@@ -1,7 +1,7 @@
 // The recursion: a geometry by its head, and the members of a collection.
 ghost use Rattle.std.specs.Prelude.{false, ◌≤◌, length};
 ghost use Rattle.laws.specs.Cut.{Said};
-ghost use Rattle.log.specs.Log.{events};
+ghost use Rattle.event_log.specs.Log.{events};
 ghost use Rattle.wkb_reader.specs.Reading.{group_r, geometry_r, reading_r};
 ghost use Rattle.wkb_reader.specs.Onward.{Leads};
 

@@ -6,7 +6,7 @@ ghost use Rattle.wkb_reader.specs.Parts.{HeadIs, TypeIs};
 use kinds::refusal;
 use wkb::Order;
 
-#[derive(Drop)]
+#[derive(Clone, Copy)]
 pub enum Head {
     Refused(u8),
     Geometry { order: Order, kind: u32 },

@@ -10,7 +10,7 @@ use kinds::refusal;
 use wkb::Order;
 
 // Where a part of a reading has led: done, or refused, with so many records in the log; the bytes from `at` on are left.
-#[derive(Drop)]
+#[derive(Clone, Copy)]
 pub struct Reached {
     pub number: u8,
     pub count: usize,
@@ -18,7 +18,7 @@ pub struct Reached {
 }
 
 // A count and a begin: the same, and how many things come inside.
-#[derive(Drop)]
+#[derive(Clone, Copy)]
 pub struct Begun {
     pub number: u8,
     pub count: usize,
@@ -48,7 +48,7 @@ pub fn read_pair(
     }
     let x = wkb::u64_at(bytes, at, order);
     let y = wkb::u64_at(bytes, at + 8, order);
-    let r = log::say(log, feature, count, Event::xy(x, y, idx));
+    let r = event_log::say(log, feature, count, Event::xy(x, y, idx));
     Reached {
         number: r.number,
         count: r.count,
@@ -113,7 +113,7 @@ pub fn read_begin(
         };
     }
     let size = wkb::u32_at(bytes, at, order);
-    let b = log::say(log, feature, count, Event::begin(kind, tagged, size, idx));
+    let b = event_log::say(log, feature, count, Event::begin(kind, tagged, size, idx));
     Begun {
         number: b.number,
         count: b.count,
@@ -139,7 +139,7 @@ pub fn say_end(
     if r.number != refusal::DONE {
         return r;
     }
-    let e = log::say(log, feature, r.count, Event::end(kind, tagged, idx));
+    let e = event_log::say(log, feature, r.count, Event::end(kind, tagged, idx));
     Reached {
         number: e.number,
         count: e.count,

@@ -25,7 +25,7 @@ fn read_point(
         Leads feature l (point_r order idx) at log.old count result.number result.count result.at log.new × (result.at ≤ length l) }
 {
     let kind = geometry_type::POINT;
-    let b = log::say(log, feature, count, Event::begin(kind, false, 0, idx));
+    let b = event_log::say(log, feature, count, Event::begin(kind, false, 0, idx));
     if b.number != refusal::DONE {
         return Reached {
             number: b.number,

@@ -8,7 +8,7 @@ use Rattle.std.proofs.lemmas.Bool.{lt-leb}
 use Rattle.kinds.specs.declared.event.Event.{Event as Flat}
 use Rattle.nesting.specs.Flat.{read}
 use Rattle.nesting.specs.Levels.{sixteen}
-use Rattle.log.specs.Log.{records_in}
+use Rattle.event_log.specs.Log.{records_in}
 use Rattle.wkb_written.specs.Spelling.{outermost, spelled}
 use Rattle.wkb_written.specs.Writing.{listed, one_feature, nested, refused_with, if_room, written_of, writing}
 use Rattle.wkb_judge.specs.Passing.{JudgedOf}

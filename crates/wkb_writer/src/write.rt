@@ -9,7 +9,7 @@ use wkb_judge::{Judged, judge_all};
 use wkb_put::put_all;
 
 // A number, and how many bytes were written: none where it is not 0.
-#[derive(Drop)]
+#[derive(Clone, Copy)]
 pub struct Wrote {
     pub number: u8,
     pub length: usize,

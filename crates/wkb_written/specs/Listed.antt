@@ -4,8 +4,8 @@ use Rattle.std.proofs.Common.{subst, arith}
 use Rattle.std.proofs.Math.Option.{Option, none, some}
 use Rattle.kinds.specs.Event as Kinds
 use Rattle.kinds.specs.declared.event.Event.{Event}
-use Rattle.log.specs.Log.{heard, record_of}
-use Rattle.log.specs.LogLaws.{heard-event}
+use Rattle.event_log.specs.Log.{heard, record_of}
+use Rattle.event_log.specs.LogLaws.{heard-event}
 use Rattle.planar.specs.Fits.{Each}
 use Rattle.nesting.specs.FlatLaws.{WellFormed}
 use Rattle.wkb_written.specs.Writing.{before, listed}

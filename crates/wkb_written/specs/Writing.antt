@@ -4,7 +4,7 @@ use Rattle.std.proofs.Math.Option.{Option, none, some}
 use Rattle.std.proofs.lemmas.List.Edits.{sets}
 use Rattle.kinds.specs.Event.{Parsed, WellFormed, Malformed}
 use Rattle.kinds.specs.declared.event.Event.{Event}
-use Rattle.log.specs.Log.{heard, feature_in, record_of, records_in}
+use Rattle.event_log.specs.Log.{heard, feature_in, record_of, records_in}
 use Rattle.nesting.specs.Rules.{Rules}
 use Rattle.nesting.specs.Machine.{Answer, taken, refused, within, start, run}
 use Rattle.nesting.specs.Flat.{read}

@@ -2,8 +2,8 @@
 mod properties;
 
 ghost use Rattle.std.specs.Prelude.{◌≡◌, List, ℕ};
-ghost use Rattle.log.specs.Log.{feature_in};
-ghost use Rattle.log.specs.LogLaws.{HeardPair};
+ghost use Rattle.event_log.specs.Log.{feature_in};
+ghost use Rattle.event_log.specs.LogLaws.{HeardPair};
 ghost use Rattle.writing.specs.State.{mem_of, outcome};
 ghost use Rattle.writing.specs.Calls.{started, event_call, finish_call, next_call};
 

@@ -6,7 +6,7 @@ ghost use Rattle.writer.specs.Property.{property_call, property_place};
 use writing::state::{State, Wrote};
 
 // What every writing call answers; and with 6 the place of the text's first bad byte, counted from the text's first, else 0.
-#[derive(Drop)]
+#[derive(Clone, Copy)]
 pub struct PropertyWrote {
     pub wrote: Wrote,
     pub place: usize,

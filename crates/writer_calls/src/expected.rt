@@ -46,7 +46,7 @@ const NUMBERS: usize = 28;
 const RECORD_BYTES: usize = 64;
 
 // What a call answers: the number, and beside it how many events it took where it was given many, or a property's place.
-#[derive(Drop)]
+#[derive(Clone, Copy)]
 pub struct Answered {
     pub number: u8,
     pub count: usize,

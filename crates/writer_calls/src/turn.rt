@@ -2,7 +2,7 @@
 use crate::expected;
 use replay::{Next, Tally};
 
-#[derive(Drop)]
+#[derive(Clone, Copy)]
 pub struct Turn {
     // The case's length, and how often it is still to be run, this time too.
     pub length: usize,

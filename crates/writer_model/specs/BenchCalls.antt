@@ -6,7 +6,7 @@ use Rattle.std.proofs.Math.Option.{none, some}
 use Rattle.kinds.specs.Event.{EventSized, begin_e, end_e, xy_e, well_formed}
 use Rattle.kinds.specs.declared.event.Event.{Event}
 use Rattle.store.specs.Lists.{Rec, pools_of, record_with}
-use Rattle.log.specs.Log.{events, hear_said}
+use Rattle.event_log.specs.Log.{events, hear_said}
 use Rattle.store.specs.Records.{table_good}
 use Rattle.writing.specs.declared.state.State.{State}
 use Rattle.writing.specs.State.{Mem, memory}

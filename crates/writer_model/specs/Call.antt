@@ -2,7 +2,7 @@
 use Rattle.std.specs.Prelude.{Bool, cond, List, ℕ, eqb}
 use Rattle.kinds.specs.Event.{Parsed}
 use Rattle.kinds.specs.Event.{WellFormed, Malformed}
-use Rattle.log.specs.Log.{heard, feature_in}
+use Rattle.event_log.specs.Log.{heard, feature_in}
 use Rattle.writing.specs.declared.feature.Feature.{Feature}
 use Rattle.writing.specs.declared.state.State.{State}
 use Rattle.writing.specs.State.{Mem, Outcome}

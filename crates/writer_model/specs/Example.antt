@@ -10,7 +10,7 @@ use Rattle.kinds.specs.Event.{begin_e, end_e, xy_e, well_formed}
 use Rattle.kinds.specs.Lanes.{xyL, endsL, zL, mL, tL, tmL}
 use Rattle.kinds.specs.declared.event.Event.{Event}
 use Rattle.store.specs.Lists.{pools_of, lent_of, record_with}
-use Rattle.log.specs.Log.{events, hear_said, feature-said}
+use Rattle.event_log.specs.Log.{events, hear_said, feature-said}
 use Rattle.store.specs.Records.{records_lent}
 use Rattle.writing.specs.declared.state.State.{State}
 use Rattle.pending.specs.Words.{words}

@@ -8,7 +8,7 @@ use Rattle.kinds.specs.Event.{well_formed, EventSized, WellFormed}
 use Rattle.kinds.specs.declared.event.Event.{Event}
 use Rattle.kinds.specs.declared.geometry.Lent.{Lent}
 use Rattle.store.specs.Lists.{lent_of}
-use Rattle.log.specs.Log.{events, heard, feature_in, hear_said, feature-said}
+use Rattle.event_log.specs.Log.{events, heard, feature_in, hear_said, feature-said}
 use Rattle.store.specs.Records.{records_lent}
 use Rattle.writing.specs.declared.state.State.{State}
 use Rattle.writing.specs.declared.state.Wrote.{Wrote}

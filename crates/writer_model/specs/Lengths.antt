@@ -9,7 +9,7 @@ use Rattle.kinds.specs.declared.event.Event.{Event}
 use Rattle.kinds.specs.Event.{Parsed}
 use Rattle.kinds.specs.Event.{WellFormed, Malformed}
 use Rattle.store.specs.Lists.{lent_of, stretch_length}
-use Rattle.log.specs.Log.{heard, feature_in}
+use Rattle.event_log.specs.Log.{heard, feature_in}
 use Rattle.store.specs.RecordLaws.{put-length}
 use Rattle.writing.specs.declared.state.State.{State}
 use Rattle.asking.specs.declared.set_type.Typed.{Typed}

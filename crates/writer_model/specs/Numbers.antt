@@ -4,7 +4,7 @@ use Rattle.std.proofs.Common.{sym, ap, ◌∙◌, arith}
 use Rattle.kinds.specs.Event.{Parsed}
 use Rattle.kinds.specs.Event.{WellFormed, Malformed}
 use Rattle.kinds.specs.declared.event.Event.{Event}
-use Rattle.log.specs.Log.{heard, feature_in}
+use Rattle.event_log.specs.Log.{heard, feature_in}
 use Rattle.writing.specs.declared.feature.Feature.{Feature}
 use Rattle.writing.specs.declared.feature.Feature.TheVariants.{Open, Numbered}
 use Rattle.writing.specs.declared.state.State.{State}

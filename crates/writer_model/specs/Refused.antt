@@ -6,7 +6,7 @@ use Rattle.std.proofs.Math.Bool.{Bool, cond}
 use Rattle.kinds.specs.declared.event.Event.{Event}
 use Rattle.kinds.specs.Event.{Parsed}
 use Rattle.kinds.specs.Event.{WellFormed, Malformed}
-use Rattle.log.specs.Log.{heard, feature_in}
+use Rattle.event_log.specs.Log.{heard, feature_in}
 use Rattle.writing.specs.declared.state.State.{State}
 use Rattle.asking.specs.declared.set_type.Typed.{Typed}
 use Rattle.asking.specs.declared.set_type.Typed.TheVariants.{Set, Mixed}

@@ -6,7 +6,7 @@ use Rattle.kinds.specs.Lanes.{xyL, endsL, zL, mL, tL, tmL}
 use Rattle.kinds.specs.declared.event.Event.{Event}
 use Rattle.kinds.specs.declared.geometry.Lent.{Lent}
 use Rattle.store.specs.Lists.{lent_of}
-use Rattle.log.specs.Log.{heard, feature_in}
+use Rattle.event_log.specs.Log.{heard, feature_in}
 use Rattle.store.specs.Records.{records_lent, put_record}
 use Rattle.writing.specs.declared.state.State.{State}
 use Rattle.writing.specs.declared.state.Wrote.{Wrote}

@@ -10,7 +10,7 @@ use Rattle.kinds.specs.EventLaws.{no_kind}
 use Rattle.kinds.specs.Lanes.{xyL, endsL, zL, mL, tL, tmL}
 use Rattle.kinds.specs.declared.event.Event.{Event}
 use Rattle.kinds.specs.declared.geometry.Lent.{Lent}
-use Rattle.log.specs.LogLaws.{HeardOther, heard-event}
+use Rattle.event_log.specs.LogLaws.{HeardOther, heard-event}
 use Rattle.asking.specs.declared.ask.Added.{Added}
 use Rattle.asking.specs.declared.ask.Ask.{Ask}
 use Rattle.asking.specs.declared.set_type.Typed.{Typed}

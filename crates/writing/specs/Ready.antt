@@ -7,7 +7,7 @@ use Rattle.kinds.specs.Lanes.{usable, lent_in}
 use Rattle.kinds.specs.Event.{Parsed, WellFormed, Malformed}
 use Rattle.kinds.specs.declared.geometry.Lent.{Lent}
 use Rattle.store.specs.Lists.{lent_of}
-use Rattle.log.specs.Log.{heard, feature_in}
+use Rattle.event_log.specs.Log.{heard, feature_in}
 use Rattle.store.specs.Records.{records_lent}
 use Rattle.asking.specs.declared.typing.Typing.{Typing}
 use Rattle.pending.specs.declared.words.Pending.{Pending}

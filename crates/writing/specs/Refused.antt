@@ -4,7 +4,7 @@ use Rattle.std.proofs.Common.{ap, ne_eqb}
 use Rattle.kinds.specs.Event.{Parsed}
 use Rattle.kinds.specs.Event.{WellFormed, Malformed}
 use Rattle.kinds.specs.declared.geometry.Lent.{Lent}
-use Rattle.log.specs.Log.{heard, feature_in}
+use Rattle.event_log.specs.Log.{heard, feature_in}
 use Rattle.writing.specs.declared.state.State.{State}
 use Rattle.writing.specs.declared.state.Wrote.{Wrote}
 use Rattle.asking.specs.declared.set_type.Typed.{Typed}

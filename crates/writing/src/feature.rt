@@ -2,7 +2,7 @@
 ghost use Rattle.std.specs.Prelude.{◌≡◌};
 ghost use Rattle.writing.specs.Feature.{belongs};
 
-#[derive(Drop)]
+#[derive(Clone, Copy)]
 pub enum Feature {
     // No event was accepted yet: one of any number may be the first.
     Open,

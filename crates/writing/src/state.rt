@@ -6,7 +6,7 @@ use crate::feature::Feature;
 use asking::typing::Typing;
 use pending::words::Pending;
 
-#[derive(Drop)]
+#[derive(Clone, Copy)]
 pub struct State {
     pub typing: Typing,
     pub waiting: bool,
@@ -34,7 +34,7 @@ impl State {
 }
 
 // What a call answers: the number, 0 for done, and the state, as it was where the number is another.
-#[derive(Drop)]
+#[derive(Clone, Copy)]
 pub struct Wrote {
     pub number: u8,
     pub state: State,

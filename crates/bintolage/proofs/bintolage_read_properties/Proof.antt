@@ -1,7 +1,7 @@
 use mathlib.Core.Path.{ap, ◌∙◌}
 use native.Mathlib.Omega.{arith}
 use Rattle.laws.specs.Cut.{said}
-use Rattle.log.specs.Values.{values}
+use Rattle.event_log.specs.Values.{values}
 use Rattle.bintolage.specs.Calls.{one}
 use Rattle.bintolage.specs.CallLaws.{count_most, stop_byte}
 use borrow.Author.Rules.{rules}

@@ -1,5 +1,5 @@
 use native.Mathlib.Omega.{arith}
-use Rattle.log.specs.Log.{events}
+use Rattle.event_log.specs.Log.{events}
 use Rattle.bintolage.specs.CallLaws.{count_most}
 use borrow.Author.Rules.{rules}
 use Rattle.bintolage.proofs.bintolage_read_wkb.Statement.{statement}

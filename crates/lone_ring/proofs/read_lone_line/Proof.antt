@@ -1,5 +1,5 @@
 use Rattle.laws.specs.Framed.{no_begin, no_body, to_end}
-use Rattle.log.specs.Log.{events}
+use Rattle.event_log.specs.Log.{events}
 use Rattle.lone_ring.specs.Lone.{lone_line}
 use borrow.Author.Rules.{rules}
 use Rattle.lone_ring.proofs.read_lone_line.Statement.{statement}

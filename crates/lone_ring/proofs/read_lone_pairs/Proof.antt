@@ -4,7 +4,7 @@ use Prim.Native.Nat.{◌*◌, ◌-◌, ◌≤◌}
 use lib.ListN.{length, drop}
 use Rattle.laws.specs.Script.{run}
 use Rattle.laws.specs.Framed.{went_on, broke_off, ended}
-use Rattle.log.specs.Log.{events}
+use Rattle.event_log.specs.Log.{events}
 use Rattle.lone_ring.specs.Lone.{lone_s, lone_end, lone_odd, lone_next}
 use Rattle.lone_ring.proofs.read_lone_pairs.Statement.{statement}
 use Rattle.lone_ring.proofs.read_lone_pairs.Tie as tie

@@ -10,7 +10,7 @@ use Rattle.laws.specs.Framed.{went_on, broke_off, ended, no_begin, began}
 use Rattle.kinds.specs.Event.{end_e}
 use Rattle.kinds.specs.declared.event.Event.{Event}
 use Rattle.store.specs.Lists.{pools_of, lists_of, record_with}
-use Rattle.log.specs.Log.{events}
+use Rattle.event_log.specs.Log.{events}
 use Rattle.reader.specs.Reading.{parts_s}
 use Rattle.walks.specs.declared.walk.Walk.{Walk}
 use Rattle.reader.specs.Lone.{lone_bounds, lone_fits, part_lone}
@@ -37,7 +37,7 @@ use Rattle.lone_ring.proofs.read_lone_ring.Reads as read-lone-ring-reads
 use Rattle.kinds.proofs.geometry.Lent.new.Reads as new-reads
 use Rattle.walks.proofs.lone_part.Reads as lone-part-reads
 use Rattle.walks.proofs.walk_in.Reads as walk-in-reads
-use Rattle.log.proofs.say.Reads as say-reads
+use Rattle.event_log.proofs.say.Reads as say-reads
 use Rattle.store.proofs.record_at.Reads as record-at-reads
 use Rattle.reader.proofs.+read_geometry_n_read_geometrycollection_read_part.{statement}
 use Rattle.reader.proofs.+read_geometry_n_read_geometrycollection_read_part.Tie.{close}

@@ -3,7 +3,7 @@ use Prim.Native.Nat.{ℕ}
 use Rattle.laws.specs.Cut.{said}
 use Rattle.laws.specs.Framed.{ended}
 use Rattle.store.specs.Lists.{pools_of, lists_of, record_with}
-use Rattle.log.specs.Log.{events}
+use Rattle.event_log.specs.Log.{events}
 use Rattle.walks.specs.declared.walk.Walk.{Walk}
 use Rattle.walks.specs.Walks.{walk_of}
 use Rattle.reader.specs.Roles.{walk_s}

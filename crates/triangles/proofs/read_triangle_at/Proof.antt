@@ -1,5 +1,5 @@
 use Rattle.laws.specs.Framed.{no_begin, no_body, to_end}
-use Rattle.log.specs.Log.{events}
+use Rattle.event_log.specs.Log.{events}
 use Rattle.lines.specs.Lines.{triangle_at}
 use borrow.Author.Rules.{rules}
 use Rattle.triangles.proofs.read_triangle_at.Statement.{statement}

@@ -5,7 +5,7 @@ use Prim.Native.Nat.{◌+◌, ◌-◌, ◌*◌, ◌≤◌, ◌<◌}
 use lib.ListN.{length, drop}
 use Rattle.laws.specs.Script.{run}
 use Rattle.laws.specs.Framed.{went_on, broke_off, ended}
-use Rattle.log.specs.Log.{events}
+use Rattle.event_log.specs.Log.{events}
 use Rattle.coords.specs.Coords.{coords_s, dropped}
 use Rattle.coords.specs.Seen.{lanes_in}
 use Rattle.coords.specs.CoordLaws.{coords_end, coords_odd, coords_short, coords_whole}

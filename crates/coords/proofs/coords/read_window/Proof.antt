@@ -1,5 +1,5 @@
 use Rattle.laws.specs.Framed.{no_begin, no_body, to_end}
-use Rattle.log.specs.Log.{events}
+use Rattle.event_log.specs.Log.{events}
 use borrow.Author.Rules.{rules}
 use Rattle.coords.proofs.coords.read_window.Statement.{statement}
 use Rattle.coords.proofs.coords.read_window.Tie as tie

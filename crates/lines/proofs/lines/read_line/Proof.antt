@@ -1,5 +1,5 @@
 use mathlib.Core.Path.{refl}
-use Rattle.log.specs.Log.{events}
+use Rattle.event_log.specs.Log.{events}
 use Rattle.laws.specs.Framed.{ended}
 use Rattle.lines.specs.LineLaws.{flat_absent, flat_whole}
 use borrow.Author.Rules.{rules}

@@ -3,7 +3,7 @@ use mathlib.Core.Path.{◌≡◌, refl}
 use Prim.Native.Nat.{◌-◌, ◌≤◌}
 use lib.ListN.{length, drop}
 use Rattle.laws.specs.Script.{run}
-use Rattle.log.specs.Log.{events}
+use Rattle.event_log.specs.Log.{events}
 use Rattle.laws.specs.Framed.{went_on, broke_off, ended}
 use Rattle.coords.specs.Seen.{coords_in}
 use Rattle.lines.specs.Lines.{lines_s}

@@ -1,6 +1,6 @@
 use native.Mathlib.Omega.{arith}
 use mathlib.Core.Path.{refl}
-use Rattle.log.specs.Log.{events}
+use Rattle.event_log.specs.Log.{events}
 use Rattle.laws.specs.Framed.{ended}
 use Rattle.coords.specs.Seen.{coords_in}
 use Rattle.lines.specs.LineLaws.{good_end, stretch_bad, stretch_good}

@@ -1,5 +1,5 @@
 use Rattle.laws.specs.Framed.{no_begin, no_body, to_end}
-use Rattle.log.specs.Log.{events}
+use Rattle.event_log.specs.Log.{events}
 use mathlib.Core.Path.{ap, ◌∙◌}
 use Prim.Native.Nat.{ℕ}
 use Rattle.kinds.specs.Event.{begin_e}

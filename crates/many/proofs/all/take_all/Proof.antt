@@ -7,7 +7,7 @@ use lib.ListN.{length}
 use borrow.Author.Rules.{rules}
 use Rattle.kinds.specs.declared.event.Event.{Event}
 use Rattle.kinds.specs.declared.geometry.Lent.{Lent}
-use Rattle.log.specs.Log.{record_of}
+use Rattle.event_log.specs.Log.{record_of}
 use Rattle.store.specs.Lists.{lent_of}
 use Rattle.store.specs.Records.{records_lent}
 use Rattle.runs.specs.declared.run.Stop.{Stop}

@@ -10,8 +10,8 @@ use borrow.Author.Tests.{eqb-true}
 use Rattle.laws.specs.Branch.{is_true, is_false}
 use Rattle.kinds.specs.Event.{told_apart}
 use Rattle.kinds.specs.declared.event.Heard.{Heard}
-use Rattle.log.specs.Log.{heard, feature_in, record_of}
-use Rattle.log.specs.LogLaws.{Behind, behind}
+use Rattle.event_log.specs.Log.{heard, feature_in, record_of}
+use Rattle.event_log.specs.LogLaws.{Behind, behind}
 use Rattle.asking.specs.declared.ask.Added.{Added}
 use Rattle.asking.specs.Ask.{pair_with}
 use Rattle.pending.specs.Growth.{grown_values}

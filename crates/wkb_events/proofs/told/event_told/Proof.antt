@@ -1,7 +1,7 @@
 use mathlib.Core.Path.{subst}
 use Prim.Native.Nat.{ℕ}
 use lib.Dec.{eqb}
-use Rattle.log.specs.Log.{feature_in}
+use Rattle.event_log.specs.Log.{feature_in}
 use borrow.Author.Rules.{rules}
 use Rattle.kinds.specs.declared.event.Event.{Event as Flat}
 use Rattle.wkb_events.specs.Told.{SortedOf}

@@ -4,7 +4,7 @@ use Prim.Native.Nat.{ℕ, ◌+◌, ◌*◌, ◌-◌, ◌/◌, ◌%◌, ◌≤◌
 use native.Mathlib.Omega.{arith}
 use lib.ListN.{length, set, length-set}
 use borrow.Author.Rules.{rules}
-use Rattle.log.specs.Log.{feature_in, record_of}
+use Rattle.event_log.specs.Log.{feature_in, record_of}
 use Rattle.wkb_judge.specs.Rows.{part_long}
 use Rattle.wkb_judge.specs.Along.{Along}
 use Rattle.wkb_judge.specs.Inside.{filled, pairs-count}

@@ -5,7 +5,7 @@ use native.Mathlib.Omega.{arith}
 use lib.ListN.{length}
 use borrow.Author.Tests.{not-false}
 use borrow.Author.Rules.{rules}
-use Rattle.log.specs.Log.{record_of}
+use Rattle.event_log.specs.Log.{record_of}
 use Rattle.wkb_judge.specs.Rows.{part_long}
 use Rattle.wkb_events.specs.Told.{Behind}
 use Rattle.wkb_judge.specs.Inside.{PairsFrom, Inside, no_pairs, one_more_pair, none_inside, pair_behind}

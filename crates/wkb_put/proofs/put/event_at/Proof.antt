@@ -2,13 +2,13 @@ use mathlib.Core.Path.{◌≡◌, ap, ◌∙◌}
 use native.Mathlib.Omega.{arith}
 use Prim.Native.Nat.{ℕ, ◌*◌, ◌+◌, ◌-◌}
 use lib.ListN.{take, drop}
-use Rattle.log.specs.Log.{heard}
+use Rattle.event_log.specs.Log.{heard}
 use borrow.Author.Rules.{rules}
 use Rattle.wkb_put.proofs.put.event_at.Statement.{statement}
 use Rattle.wkb_put.proofs.put.event_at.Tie as tie
 use Rattle.wkb_put.proofs.put.event_at.Reads as reads
 use Rattle.wkb_put.proofs.put.event_at.Lts as lts
-use Rattle.log.proofs.event_in.Reads as event-in-reads
+use Rattle.event_log.proofs.event_in.Reads as event-in-reads
 
 pub event_at_spec : {M : Type 1} → statement M
 event_at_spec =

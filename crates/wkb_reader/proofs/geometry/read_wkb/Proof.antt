@@ -1,5 +1,5 @@
 use Rattle.wkb_reader.specs.Parts.{whole_refused, whole_over, whole_read}
-use Rattle.log.specs.Log.{events}
+use Rattle.event_log.specs.Log.{events}
 use Rattle.laws.specs.Cut.{said}
 use native.Mathlib.Omega.{arith}
 use borrow.Author.Rules.{rules}

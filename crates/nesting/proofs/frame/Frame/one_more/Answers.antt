@@ -1,0 +1,16 @@
+use native.Mathlib.Omega.{arith}
+use borrow.Author.Rules.{rules}
+use Rattle.nesting.specs.Taking.{more-is}
+use Rattle.nesting.proofs.frame.Frame.one_more.Goals as goal
+
+
+
+pub returns-then-self : goal.returns-then-self
+returns-then-self c =
+    λ g is less.
+    absurd (omega (arith, is.size, is.done))
+
+pub returns : goal.returns
+returns c =
+    λ g is less.
+    more-is c.args.self g is

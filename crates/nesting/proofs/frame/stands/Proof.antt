@@ -1,9 +1,0 @@
-use mathlib.Core.Path.{ap, ◌∙◌}
-use Prim.Native.Nat.{ℕ}
-use Rattle.nesting.specs.Machine.{number}
-use Rattle.nesting.specs.Taking.{stands_by, stands_is}
-use Rattle.nesting.proofs.frame.stands.Statement.{statement}
-use Rattle.nesting.proofs.frame.stands.Tie as tie
-
-pub stands_spec : {M : Type 1} → statement M
-stands_spec = tie.close (tie.spec (λ c around type e f. let a = c.args in ap (λ (n : ℕ). stands_by n a.kind a.tagged) e ∙ ap (λ (n : ℕ). stands_by (number around) n a.tagged) f ∙ stands_is around type a.tagged))

@@ -1,0 +1,44 @@
+use mathlib.Core.Path.{◌≡◌, sym, ◌∙◌}
+use Prim.Native.Nat.{◌+◌, ◌-◌, ◌≤◌}
+use native.Mathlib.Omega.{arith}
+use lib.ListN.{length, drop}
+use borrow.Author.Rules.{rules}
+use Rattle.utf8.specs.Utf8.{first_bad}
+use Rattle.utf8.specs.Laws.{char_at_within, bad_here, bad_at_end, bad_at_next, ascii_at}
+use Rattle.utf8.specs.Meaning.{bad_nowhere, bad_at}
+use Rattle.utf8.proofs.first_bad.Goals as goal
+
+pub loop-at-smaller-then-bytes-at-lt128 : goal.loop-at-smaller-then-bytes-at-lt128
+loop-at-smaller-then-bytes-at-lt128 c = omega arith
+
+pub loop-at-preserved-then-bytes-at-lt128 : goal.loop-at-preserved-then-bytes-at-lt128
+loop-at-preserved-then-bytes-at-lt128 c =
+    let s = c.args.bytes.now in
+    let at = c.loop-at.at in
+    (omega arith, sym (bad_at_next s at 1 (ascii_at s at (omega arith) c.if-bytes-at-lt128.true) (λ none. omega (arith, none))) ∙ c.loop-at.invariant.1)
+
+pub returns-then-len-eq0 : goal.returns-then-len-eq0
+returns-then-len-eq0 c =
+    let s = c.args.bytes.now in
+    let at = c.loop-at.at in
+    let stops = bad_here (drop at s) (sym c.char_length-len.ensures ∙ c.if-len-eq0.true) in
+    bad_at s at (omega (arith, c.loop-at.invariant.1)) (omega arith)
+
+pub overflow_add-at-else-bytes-at-lt128 : goal.overflow_add-at-else-bytes-at-lt128
+overflow_add-at-else-bytes-at-lt128 c = omega (arith, c.char_length-len.ensures, char_at_within c.args.bytes.now c.loop-at.at)
+
+pub loop-at-smaller : goal.loop-at-smaller
+loop-at-smaller c = omega (arith, c.if-len-eq0.false, c.char_length-len.ensures, char_at_within c.args.bytes.now c.loop-at.at)
+
+pub loop-at-preserved : goal.loop-at-preserved
+loop-at-preserved c =
+    let s = c.args.bytes.now in
+    let at = c.loop-at.at in
+    let char = c.char_length-len in
+    (omega (arith, char.ensures, char_at_within s at), sym (bad_at_next s at char.result char.ensures c.if-len-eq0.false) ∙ c.loop-at.invariant.1)
+
+pub returns : goal.returns
+returns c =
+    let s = c.args.bytes.now in
+    let ends = bad_at_end s c.loop-at.at c.loop-at-test.false in
+    bad_nowhere s (omega (arith, c.loop-at.invariant.1))
