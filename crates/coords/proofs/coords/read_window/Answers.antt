@@ -1,0 +1,18 @@
+use Rattle.laws.specs.Framed.{no_begin, no_body, to_end}
+use Rattle.event_log.specs.Log.{events}
+use borrow.Author.Rules.{rules}
+use Rattle.coords.proofs.coords.read_window.Goals as goal
+
+
+
+pub returns-then-b-ne-DONE : goal.returns-then-b-ne-DONE
+returns-then-b-ne-DONE c = let a = c.args in no_begin (events a.feature) _ _ _ _ c.begin.ensures c.say-b.ensures c.if-b-ne-DONE.true
+
+pub returns-then-r-ne-DONE : goal.returns-then-r-ne-DONE
+returns-then-r-ne-DONE c = let a = c.args in no_body (events a.feature) _ _ _ _ c.begin.ensures c.say-b.ensures c.if-b-ne-DONE.false c.read_coords-r.ensures c.if-r-ne-DONE.true
+
+pub end-requires : goal.end-requires
+end-requires c = c.requires.4
+
+pub returns : goal.returns
+returns c = let a = c.args in to_end (events a.feature) _ _ _ _ c.begin.ensures c.say-b.ensures c.if-b-ne-DONE.false c.read_coords-r.ensures c.if-r-ne-DONE.false c.end.ensures c.say.ensures

@@ -1,0 +1,7 @@
+use borrow.Author.Rules.{rules}
+use Rattle.pending.proofs.growth.past.Goals as goal
+
+
+
+pub returns : goal.returns
+returns c = cc

@@ -1,0 +1,25 @@
+use mathlib.Core.Path.{◌≡◌, refl}
+use Prim.Native.Nat.{suc, ◌+◌, ◌-◌, ◌≤◌}
+use native.Mathlib.Nat.{add-zero}
+use native.Mathlib.Omega.{arith}
+use lib.ListN.{length, drop, length-set, drop_of_length-le}
+use lib.Seq.{sets, drop-cons}
+use borrow.Author.Rules.{rules}
+use Rattle.property_writer.proofs.lay.put_bytes.Goals as goal
+
+pub loop-i-init : goal.loop-i-init
+loop-i-init c = (refl, search rules, rw add-zero)
+
+pub loop-i-preserved : goal.loop-i-preserved
+loop-i-preserved c =
+    let a = c.args in
+    let i = c.loop-i.i in
+    let next : a.at + (i + 1) ≡ suc (a.at + i) = omega arith in
+    let more : i + 1 ≡ suc i = omega arith in
+    (simp length-set (search rules), search rules, rw (next, more) (rw (drop-cons a.bytes.now i 0 (omega arith)) at c.loop-i.invariant.2))
+
+pub shape_of-s : goal.shape_of-s
+shape_of-s c = c.loop-i.invariant.0
+
+pub returns : goal.returns
+returns c = rw (drop_of_length-le c.args.bytes.now c.loop-i-test.false) at c.loop-i.invariant.2

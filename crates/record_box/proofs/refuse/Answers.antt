@@ -1,0 +1,7 @@
+use borrow.Author.Rules.{rules}
+use Rattle.record_box.proofs.refuse.Goals as goal
+
+
+
+pub returns : goal.returns
+returns c = rw c.empty.ensures
