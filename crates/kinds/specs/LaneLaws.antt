@@ -14,3 +14,12 @@ lane_of_every f h =
 
 pub every_of_lanes : (f : Lane → Bool) → ((n : Lane) → f n ≡ true) → every_lane f ≡ true
 every_of_lanes f h = rw (h xyL, h endsL, h zL, h mL, h tL, h tmL)
+
+-- what holds in each lane, by its six cases
+pub by_lane : (P : Lane → Type 0) → P xyL → P endsL → P zL → P mL → P tL → P tmL → (n : Lane) → P n
+by_lane P xy ends z m t tm xyL = xy
+by_lane P xy ends z m t tm endsL = ends
+by_lane P xy ends z m t tm zL = z
+by_lane P xy ends z m t tm mL = m
+by_lane P xy ends z m t tm tL = t
+by_lane P xy ends z m t tm tmL = tm

@@ -6,6 +6,7 @@ use Rattle.std.proofs.Math.Bool.{true, false, cond}
 use Rattle.std.proofs.lemmas.List.Edits.{sets}
 use Rattle.std.proofs.Math.Seq.{length-sets}
 use Rattle.laws.specs.Every.{both}
+use Rattle.kinds.specs.LaneLaws.{by_lane}
 use Rattle.kinds.specs.Event.{WellFormed, Malformed}
 use Rattle.kinds.specs.Lanes.{xyL, endsL, zL, mL, tL, tmL}
 use Rattle.kinds.specs.declared.event.Event.{Event}
@@ -126,8 +127,8 @@ pair_apart p v records table ends =
     record {
       table = r.table;
       records_fit = r.records_fit;
-      words = λ n. elim n [ xyL ↦ xy.0 | endsL ↦ r.words endsL | zL ↦ r.words zL | mL ↦ r.words mL | tL ↦ r.words tL | tmL ↦ r.words tmL ];
-      fits = λ n. elim n [ xyL ↦ xy.1 | endsL ↦ r.fits endsL | zL ↦ r.fits zL | mL ↦ r.fits mL | tL ↦ r.fits tL | tmL ↦ r.fits tmL ];
+      words = by_lane _ xy.0 (r.words endsL) (r.words zL) (r.words mL) (r.words tL) (r.words tmL);
+      fits = by_lane _ xy.1 (r.fits endsL) (r.fits zL) (r.fits mL) (r.fits tL) (r.fits tmL);
     })
 
 values_apart : (p : Pending) (v : Values) (xy z m t tm : Bool) → Apart p v (values_with xy z m t tm) (values_room p (values_with xy z m t tm) (length v.xy) (length v.z) (length v.m) (length v.t) (length v.tm))
@@ -140,8 +141,8 @@ values_apart p v xy z m t tm records table ends =
     record {
       table = r.table;
       records_fit = r.records_fit;
-      words = λ n. elim n [ xyL ↦ told.in_xy | endsL ↦ r.words endsL | zL ↦ told.in_z | mL ↦ told.in_m | tL ↦ told.in_t | tmL ↦ told.in_tm ];
-      fits = λ n. elim n [ xyL ↦ fit.xy | endsL ↦ r.fits endsL | zL ↦ fit.z | mL ↦ fit.m | tL ↦ fit.t | tmL ↦ fit.tm ];
+      words = by_lane _ told.in_xy (r.words endsL) told.in_z told.in_m told.in_t told.in_tm;
+      fits = by_lane _ fit.xy (r.fits endsL) fit.z fit.m fit.t fit.tm;
     })
 
 -- ---- what a plain event comes to, from the test of readiness and its own

@@ -6,6 +6,7 @@ use Rattle.std.proofs.Math.Bool.{false}
 use mathlib.Core.List.{List, [], ◌∷◌, ◌++◌}
 use Rattle.std.proofs.Math.Option.{none}
 use Rattle.laws.specs.Every.{never}
+use Rattle.kinds.specs.LaneLaws.{by_lane}
 use Rattle.kinds.specs.Event.{begin_e, end_e, xy_e, well_formed}
 use Rattle.kinds.specs.Lanes.{xyL, endsL, zL, mL, tL, tmL}
 use Rattle.kinds.specs.declared.event.Event.{Event}
@@ -48,7 +49,7 @@ begun-point = fed_state (started 1 false false) 7 1 (lent_of (pools_of (0 ∷ 0 
 pub pair-agrees : (table other xy more ends z m t tm : List ℕ) → Agrees begun-point (memory table (pools_of (1 ∷ 2 ∷ xy) [] [] [] [] [])) (memory other (pools_of (1 ∷ 2 ∷ more) ends z m t tm))
 unfolding started ask_of begun set_type has_room grown_all state_after decide_event if_due begin_e xy_e
 pair-agrees table other xy more ends z m t tm = record {
-  pools = λ n. elim n [ xyL ↦ refl | endsL ↦ refl | zL ↦ refl | mL ↦ refl | tL ↦ refl | tmL ↦ refl ];
+  pools = by_lane _ refl refl refl refl refl refl;
   table = λ i a e. absurd (never (e (omega arith)));
 }
 

@@ -6,6 +6,7 @@ use mathlib.Core.List.{List, [], ◌∷◌, ◌++◌, append-nil}
 use Rattle.std.proofs.Math.Option.{none, some}
 use native.Mathlib.Omega.{arith}
 use Rattle.std.proofs.Math.ListN.{length}
+use Rattle.kinds.specs.LaneLaws.{by_lane}
 use Rattle.kinds.specs.Geometry.{SpanSized, GeometrySized}
 use Rattle.kinds.specs.Lanes.{Lane, xyL, endsL, zL, mL, tL, tmL}
 use Rattle.kinds.specs.declared.geometry.Judged.TheVariants.{Good}
@@ -44,7 +45,7 @@ root-shown s table P kind kind' n e f most r = record {
   geometry = rootAt kind s.parts;
   read = r;
   lists = λ i. record { kind = e i; xy = none; ends = none; z = none; m = none; t = none; tm = none; parts = some (1, f i) };
-  below = λ m. elim m [ xyL ↦ tt | endsL ↦ tt | zL ↦ tt | mL ↦ tt | tL ↦ tt | tmL ↦ tt ];
+  below = by_lane _ tt tt tt tt tt tt;
   above = (omega arith, omega arith, omega arith);
 }
 

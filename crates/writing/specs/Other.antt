@@ -5,6 +5,7 @@ use Rattle.std.proofs.Math.Path.{ap}
 use Rattle.std.proofs.Math.Bool.{Bool}
 use Rattle.laws.specs.Cond.{if_so, if_not}
 use Rattle.laws.specs.Every.{never, both}
+use Rattle.kinds.specs.LaneLaws.{by_lane}
 use Rattle.kinds.specs.Event.{well_formed}
 use Rattle.kinds.specs.EventLaws.{no_kind}
 use Rattle.kinds.specs.Lanes.{xyL, endsL, zL, mL, tL, tmL}
@@ -62,7 +63,7 @@ module _ (s : State) (a : Ask) (records ends : ℕ) (room : other_room s a recor
       (omega (arith, t.0, is), omega (arith, t.1, is))
 
   pub other_fits : OnlyEnds a → Fits s.pending no_words → Fits s.pending a.added
-  other_fits only fits = subst (λ (added : Added). Fits s.pending added) (sym only) (λ n. elim n [ xyL ↦ fits xyL | endsL ↦ (room_in_lem _ _ _ tests.1).1 | zL ↦ fits zL | mL ↦ fits mL | tL ↦ fits tL | tmL ↦ fits tmL ])
+  other_fits only fits = subst (λ (added : Added). Fits s.pending added) (sym only) (by_lane _ (fits xyL) ((room_in_lem _ _ _ tests.1).1) (fits zL) (fits mL) (fits tL) (fits tmL))
 
 -- ---- its answer: out of its turn, of another feature, types mixed, done, no room
 module _ (s : State) (n : ℕ) (a : Ask) (ready : Bool) (records ends : ℕ) where
@@ -130,8 +131,8 @@ module _ (s : State) (typed : Typed) (end part : Bool) (records : ℕ) (pools : 
       record {
         table = table.0;
         records_fit = table.1;
-        words = λ n. elim n [ xyL ↦ r.words xyL | endsL ↦ ends.0 | zL ↦ r.words zL | mL ↦ r.words mL | tL ↦ r.words tL | tmL ↦ r.words tmL ];
-        fits = λ n. elim n [ xyL ↦ r.fits xyL | endsL ↦ ends.1 | zL ↦ r.fits zL | mL ↦ r.fits mL | tL ↦ r.fits tL | tmL ↦ r.fits tmL ];
+        words = by_lane _ (r.words xyL) ends.0 (r.words zL) (r.words mL) (r.words tL) (r.words tmL);
+        fits = by_lane _ (r.fits xyL) ends.1 (r.fits zL) (r.fits mL) (r.fits tL) (r.fits tmL);
       })
 
   pub other_decides : (n : ℕ) (ready : Bool) → is_ready s records pools ≡ ready → decide_other s n (ask typed (end_if end) part) ready records pools.ends ≡ decide_event s n (ask typed (end_if end) part) records pools
