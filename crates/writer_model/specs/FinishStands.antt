@@ -91,7 +91,7 @@ module _ (s : State) (k : Mem) (h : Typing) (pending : Pools) (room : Room s.pen
       written = put_same k.table 0 _ in_table (root-sized s.typing.current s.parts (omega (arith, st.most)))
 
       bare : (n : Lane) → words_of (root_over (writer h pending (p ∷ ps) none) (p ∷ ps)) n ≡ []
-      bare n = elim n [ xyL ↦ refl | endsL ↦ refl | zL ↦ refl | mL ↦ refl | tL ↦ refl | tmL ↦ refl ]
+      bare = by_lane _ refl refl refl refl refl refl
 
   finished_stands : (rs : List Rec) → Stands s k (writer h pending rs none) → Stands (finished s) (memory (put_record k.table 0 (root_of s)) k.pools) (finish (writer h pending rs none))
   unfolding finished root_of

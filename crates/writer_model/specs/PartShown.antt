@@ -2,6 +2,7 @@
 use Rattle.std.specs.Prelude.{◌≡◌, List, ℕ, ◌+◌, length}
 use Rattle.std.proofs.Math.Option.{none}
 use native.Mathlib.Omega.{arith}
+use Rattle.kinds.specs.LaneLaws.{by_lane}
 use Rattle.kinds.specs.Geometry.{GeometrySized}
 use Rattle.kinds.specs.Lanes.{Lane, xyL, endsL, zL, mL, tL, tmL, usable, span_in}
 use Rattle.kinds.specs.declared.geometry.Judged.TheVariants.{Good}
@@ -36,28 +37,14 @@ module _ (P : Pools) (p : Pending) (w : Writer) (h : (n : Lane) → Lies (pool_i
 
   part_below : (kind : ℕ) (n : Lane) → InPool (span_in (part_at kind p) n) (past (words_in p n) (omitted n)).start (usable n)
   unfolding part_at
-  part_below kind n =
-      elim n [
-        | xyL ↦ (listed_has (h xyL)).below
-        | endsL ↦ (shown-has (h endsL) 1).below
-        | zL ↦ (shown-has (h zL) 0).below
-        | mL ↦ (shown-has (h mL) 0).below
-        | tL ↦ (shown-has (h tL) 0).below
-        | tmL ↦ (shown-has (h tmL) 0).below
-      ]
+  part_below kind =
+      by_lane _ (listed_has (h xyL)).below (shown-has (h endsL) 1).below (shown-has (h zL) 0).below (shown-has (h mL) 0).below (shown-has (h tL) 0).below (shown-has (h tmL) 0).below
 
   -- the next pending words begin where its words end
   pub part_ends : (n : Lane) → (past (words_in p n) (omitted n)).start ≡ (words_in p n).start + length (words_of (part_of w) n)
   unfolding part_of
-  part_ends n =
-      elim n [
-        | xyL ↦ (listed_has (h xyL)).ends
-        | endsL ↦ (shown-has (h endsL) 1).ends
-        | zL ↦ (shown-has (h zL) 0).ends
-        | mL ↦ (shown-has (h mL) 0).ends
-        | tL ↦ (shown-has (h tL) 0).ends
-        | tmL ↦ (shown-has (h tmL) 0).ends
-      ]
+  part_ends =
+      by_lane _ (listed_has (h xyL)).ends (shown-has (h endsL) 1).ends (shown-has (h zL) 0).ends (shown-has (h mL) 0).ends (shown-has (h tL) 0).ends (shown-has (h tmL) 0).ends
 
   pub part_sized : (kind : ℕ) → GeometrySized (part_at kind p)
   unfolding part_at
