@@ -4,10 +4,10 @@ ghost use Rattle.writing.specs.declared.feature.Feature.TheVariants.{Numbered};
 ghost use Rattle.writing.specs.State.{mem_of};
 ghost use Rattle.runs.specs.Events.{progress, events_call};
 
+use event_log::rest_number;
 use frames::take_other;
 use kinds::geometry::Lent;
 use kinds::refusal;
-use event_log::rest_number;
 use runs::{Stop, Took, blocked_number, take_plain};
 use writing::ready::is_ready;
 use writing::state::State;
