@@ -1,0 +1,20 @@
+use Rattle.laws.specs.Framed.{no_begin, no_body, to_end}
+use Rattle.event_log.specs.Log.{events}
+use mathlib.Core.Path.{ap, ◌∙◌}
+use Prim.Native.Nat.{ℕ}
+use Rattle.kinds.specs.Event.{begin_e}
+use Rattle.lines.specs.Lines.{stretches_s}
+use borrow.Author.Rules.{rules}
+use Rattle.lines.proofs.lines.read_stretches.Goals as goal
+
+pub returns-then-b-ne-DONE : goal.returns-then-b-ne-DONE
+returns-then-b-ne-DONE c = unfold stretches_s in let a = c.args in no_begin (events a.feature) _ _ _ _ (c.begin.ensures ∙ ap (λ (k : ℕ). begin_e a.kind a.tagged k a.idx) c.stretches-size.ensures) c.say-b.ensures c.if-b-ne-DONE.true
+
+pub returns-then-r-ne-DONE : goal.returns-then-r-ne-DONE
+returns-then-r-ne-DONE c = unfold stretches_s in let a = c.args in no_body (events a.feature) _ _ _ _ (c.begin.ensures ∙ ap (λ (k : ℕ). begin_e a.kind a.tagged k a.idx) c.stretches-size.ensures) c.say-b.ensures c.if-b-ne-DONE.false c.read_rings-r.ensures c.if-r-ne-DONE.true
+
+pub end-requires : goal.end-requires
+end-requires c = c.requires.2
+
+pub returns : goal.returns
+returns c = unfold stretches_s in let a = c.args in to_end (events a.feature) _ _ _ _ (c.begin.ensures ∙ ap (λ (k : ℕ). begin_e a.kind a.tagged k a.idx) c.stretches-size.ensures) c.say-b.ensures c.if-b-ne-DONE.false c.read_rings-r.ensures c.if-r-ne-DONE.false c.end.ensures c.say.ensures
