@@ -2,10 +2,10 @@
 use crate::number::say_double;
 use crate::output::{say, say_number, say_ordinal};
 use crate::words::{say_content, say_type};
+use event_log::EVENT_BYTES;
 use kinds::event::{Event, Heard, bit_set};
 use kinds::flags::Flags;
 use kinds::geometry_type;
-use event_log::EVENT_BYTES;
 
 fn say_value(present: u8, bit: u8, name: &[u8], bits: u64) {
     if bit == 0 {

@@ -1,9 +1,9 @@
 // The map of a feature: the events that came back, one to a line.
 use crate::event::say_event;
 use crate::output::{end_line, indent};
+use event_log::EVENT_BYTES;
 use kinds::event::{Event, Heard};
 use kinds::geometry_type;
-use event_log::EVENT_BYTES;
 
 // Where the map is: how deep, and in a geometry of which type.
 #[derive(Clone, Copy)]

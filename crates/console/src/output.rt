@@ -1,16 +1,17 @@
 // What is written to standard output.
-use libc::STDOUT_FILENO;
+
+const STDOUT: i32 = 1;
 
 pub fn say(words: &[u8]) {
-    io::write_all(STDOUT_FILENO, words);
+    io::write_all(STDOUT, words);
 }
 
 pub fn say_number(n: u64) {
-    io::print_decimal(STDOUT_FILENO, n);
+    io::print_decimal(STDOUT, n);
 }
 
 pub fn say_hex(n: u64, digits: usize) {
-    io::print_hex(STDOUT_FILENO, n, digits);
+    io::print_hex(STDOUT, n, digits);
 }
 
 // A number counted from zero, as people count.

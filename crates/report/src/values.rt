@@ -6,9 +6,9 @@ use console::{
     end_line, say, say_bytes, say_column_type, say_double, say_float, say_number, say_signed,
     say_text,
 };
+use event_log::VALUE_BYTES;
 use kinds::column_type;
 use kinds::value::Value;
-use event_log::VALUE_BYTES;
 use numbers::{u16_at, u32_at, u64_at};
 
 fn value_of(bytes: &[u8]) -> Value

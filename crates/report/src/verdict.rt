@@ -2,9 +2,9 @@
 use crate::row::first_events;
 use compared::{comes_back, common};
 use console::{end_line, say, say_count, say_record, say_refusal};
+use event_log::EVENT_BYTES;
 use kinds::answer::Answer;
 use kinds::{geometry_type, refusal};
-use event_log::EVENT_BYTES;
 
 // So many events of a feature are kept to be compared.
 pub const KEPT: usize = 16384;

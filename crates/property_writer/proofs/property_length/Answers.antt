@@ -5,8 +5,6 @@ use Rattle.property_value.specs.ColumnLaws.{width_most}
 use Rattle.property_writer.specs.Writing.{property_length}
 use Rattle.property_writer.proofs.property_length.Goals as goal
 
-
-
 pub returns-then-kind-ge-STRING : goal.returns-then-kind-ge-STRING
 returns-then-kind-ge-STRING c = unfold property_length in rw (le-leb 11 c.args.kind c.if-kind-ge-STRING.true) (omega arith)
 

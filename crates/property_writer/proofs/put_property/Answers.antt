@@ -1,12 +1,15 @@
-use mathlib.Core.Path.{◌≡◌, sym, ap, ◌∙◌}
-use Prim.Native.Nat.{◌+◌, ◌≤◌}
-use native.Mathlib.Omega.{arith}
-use lib.ListN.{length}
-use borrow.Author.Rules.{rules}
+use Rattle.std.specs.Prelude.{◌≡◌, ◌+◌, ◌≤◌, ℕ, List, Bool, length}
+use Rattle.std.proofs.Common.{arith, sym, ap, ◌∙◌}
 use Rattle.property_writer.specs.declared.PropertyPut.{PropertyPut}
-use Rattle.property_writer.specs.Writing.{refusal_of}
-use Rattle.property_writer.specs.WritingLaws.{Accepted, accepted, length_property, refused, put-done, bytes-done}
+use Rattle.property_writer.specs.Writing.{refusal_of, property_length}
+use Rattle.property_writer.specs.WritingLaws.{accepted, length_property, refused, put-done, bytes-done}
 use Rattle.property_writer.proofs.put_property.Goals as goal
+
+-- what is used after a write stays within the usable bytes
+grown : (waiting : Bool) (used column kind bits : ℕ) (text : List ℕ) (lent size : ℕ) → refusal_of waiting used column kind bits text lent ≡ 0 →
+    size ≡ property_length kind text → used + size ≤ 65536
+grown waiting used column kind bits text lent size none sized =
+    omega (arith, (accepted waiting used column kind bits text lent none).usable, length_property column kind bits text)
 
 pub returns-then-judged-ne-DONE : goal.returns-then-judged-ne-DONE
 returns-then-judged-ne-DONE c =
@@ -18,34 +21,44 @@ returns-then-judged-ne-DONE c =
 
 pub overflow_cast-column : goal.overflow_cast-column
 overflow_cast-column c =
-    omega (arith, ((let a = c.args in
-    accepted a.waiting a.used a.column a.kind a.bits a.text.now (length a.buffer.now) ((sym (ap (λ (r : PropertyPut). r.number) c.refusal_of-judged.ensures) ∙ c.if-judged-ne-DONE.false)))).index)
+    let a = c.args in
+    let none : refusal_of a.waiting a.used a.column a.kind a.bits a.text.now (length a.buffer.now) ≡ 0 =
+    sym (ap (λ (r : PropertyPut). r.number) c.refusal_of-judged.ensures) ∙ c.if-judged-ne-DONE.false in
+    let facts = accepted a.waiting a.used a.column a.kind a.bits a.text.now (length a.buffer.now) none in
+    omega (arith, facts.index)
 
 pub lay_property-requires : goal.lay_property-requires
 lay_property-requires c =
-    record { text_in_bounds = ((let a = c.args in
-    accepted a.waiting a.used a.column a.kind a.bits a.text.now (length a.buffer.now) ((sym (ap (λ (r : PropertyPut). r.number) c.refusal_of-judged.ensures) ∙ c.if-judged-ne-DONE.false)))).room; exact = ((let a = c.args in
-    accepted a.waiting a.used a.column a.kind a.bits a.text.now (length a.buffer.now) ((sym (ap (λ (r : PropertyPut). r.number) c.refusal_of-judged.ensures) ∙ c.if-judged-ne-DONE.false)))).exact }
+    let a = c.args in
+    let none : refusal_of a.waiting a.used a.column a.kind a.bits a.text.now (length a.buffer.now) ≡ 0 =
+    sym (ap (λ (r : PropertyPut). r.number) c.refusal_of-judged.ensures) ∙ c.if-judged-ne-DONE.false in
+    let facts = accepted a.waiting a.used a.column a.kind a.bits a.text.now (length a.buffer.now) none in
+    record { text_in_bounds = facts.room; exact = facts.exact }
 
 pub overflow_cast-result : goal.overflow_cast-result
 overflow_cast-result c =
-    omega (arith, (let a = c.args in
-    omega (arith, ((let a = c.args in
-    accepted a.waiting a.used a.column a.kind a.bits a.text.now (length a.buffer.now) ((sym (ap (λ (r : PropertyPut). r.number) c.refusal_of-judged.ensures) ∙ c.if-judged-ne-DONE.false)))).usable, length_property a.column a.kind a.bits a.text.now, c.property_length.ensures)))
+    let a = c.args in
+    let none : refusal_of a.waiting a.used a.column a.kind a.bits a.text.now (length a.buffer.now) ≡ 0 =
+    sym (ap (λ (r : PropertyPut). r.number) c.refusal_of-judged.ensures) ∙ c.if-judged-ne-DONE.false in
+    omega (arith, grown a.waiting a.used a.column a.kind a.bits a.text.now (length a.buffer.now) _ none c.property_length.ensures)
 
 pub overflow_add-result : goal.overflow_add-result
 overflow_add-result c =
-    omega (arith, (let a = c.args in
-    omega (arith, ((let a = c.args in
-    accepted a.waiting a.used a.column a.kind a.bits a.text.now (length a.buffer.now) ((sym (ap (λ (r : PropertyPut). r.number) c.refusal_of-judged.ensures) ∙ c.if-judged-ne-DONE.false)))).usable, length_property a.column a.kind a.bits a.text.now, c.property_length.ensures)))
+    let a = c.args in
+    let none : refusal_of a.waiting a.used a.column a.kind a.bits a.text.now (length a.buffer.now) ≡ 0 =
+    sym (ap (λ (r : PropertyPut). r.number) c.refusal_of-judged.ensures) ∙ c.if-judged-ne-DONE.false in
+    omega (arith, grown a.waiting a.used a.column a.kind a.bits a.text.now (length a.buffer.now) _ none c.property_length.ensures)
 
 pub returns : goal.returns
 returns c =
-    let a = c.args in (
-      rw (
-        put-done a.waiting a.used a.column a.kind a.bits a.text.now a.buffer.now ((sym (ap (λ (r : PropertyPut). r.number) c.refusal_of-judged.ensures) ∙ c.if-judged-ne-DONE.false)),
+    let a = c.args in
+    let none : refusal_of a.waiting a.used a.column a.kind a.bits a.text.now (length a.buffer.now) ≡ 0 =
+    sym (ap (λ (r : PropertyPut). r.number) c.refusal_of-judged.ensures) ∙ c.if-judged-ne-DONE.false in
+    record {
+      answer = rw (
+        put-done a.waiting a.used a.column a.kind a.bits a.text.now a.buffer.now none,
         length_property a.column a.kind a.bits a.text.now,
         ← c.property_length.ensures,
-      ),
-      rw (bytes-done a.waiting a.used a.column a.kind a.bits a.text.now a.buffer.now ((sym (ap (λ (r : PropertyPut). r.number) c.refusal_of-judged.ensures) ∙ c.if-judged-ne-DONE.false))) c.lay_property.ensures,
-    )
+      );
+      bytes = rw (bytes-done a.waiting a.used a.column a.kind a.bits a.text.now a.buffer.now none) c.lay_property.ensures;
+    }

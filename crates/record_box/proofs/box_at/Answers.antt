@@ -6,8 +6,6 @@ use Rattle.store.specs.Lists.{pools_of}
 use Rattle.record_box.specs.BoxLaws.{past_box, refused_box, went_box}
 use Rattle.record_box.proofs.box_at.Goals as goal
 
-
-
 pub returns-then-n-ge-RECORDS : goal.returns-then-n-ge-RECORDS
 returns-then-n-ge-RECORDS c =
     let a = c.args in

@@ -7,8 +7,6 @@ use Rattle.laws.specs.Cond.{if_so}
 use Rattle.bbox.specs.Box.{box_from}
 use Rattle.record_box.proofs.own_once.Goals as goal
 
-
-
 pub returns-then-is_clear : goal.returns-then-is_clear
 returns-then-is_clear c = if_so _ (sym c.is_clear.ensures ∙ c.if-is_clear.true) refl
 

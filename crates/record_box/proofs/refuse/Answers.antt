@@ -1,7 +1,5 @@
 use borrow.Author.Rules.{rules}
 use Rattle.record_box.proofs.refuse.Goals as goal
 
-
-
 pub returns : goal.returns
 returns c = rw c.empty.ensures

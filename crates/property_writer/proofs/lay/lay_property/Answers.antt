@@ -8,8 +8,6 @@ use Rattle.laws.specs.Runs.{then, lent_tail}
 use Rattle.property_writer.specs.Writing.{laid_down, property_bytes}
 use Rattle.property_writer.proofs.lay.lay_property.Goals as goal
 
-
-
 pub put_u16-requires : goal.put_u16-requires
 put_u16-requires c = unfold property_bytes in omega (arith, c.requires.text_in_bounds)
 

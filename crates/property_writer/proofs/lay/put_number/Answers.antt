@@ -5,8 +5,6 @@ use borrow.Author.Rules.{rules}
 use Rattle.property_value.specs.ColumnLaws.{last_width}
 use Rattle.property_writer.proofs.lay.put_number.Goals as goal
 
-
-
 pub overflow_cast-out : goal.overflow_cast-out
 overflow_cast-out c = let narrow = rw c.in-1.is at c.requires.1 in omega arith
 

@@ -6,8 +6,6 @@ use Rattle.laws.specs.Runs.{then}
 use Rattle.property_writer.specs.Writing.{text_bytes}
 use Rattle.property_writer.proofs.lay.put_text.Goals as goal
 
-
-
 pub returns : goal.returns
 returns c =
     unfold text_bytes in

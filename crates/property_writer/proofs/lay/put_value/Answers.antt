@@ -8,8 +8,6 @@ use Rattle.property_value.specs.Column.{width_of}
 use Rattle.property_writer.specs.WritingLaws.{value_text, value_number, length_text}
 use Rattle.property_writer.proofs.lay.put_value.Goals as goal
 
-
-
 pub put_text-requires : goal.put_text-requires
 put_text-requires c =
     let a = c.args in

@@ -1,0 +1,15 @@
+use mathlib.Core.Path.{◌≡◌, refl}
+use mathlib.Core.List.{◌++◌}
+use Prim.Native.Nat.{◌-◌, ◌≤◌}
+use native.Mathlib.Omega.{arith}
+use lib.ListN.{length, drop, length-set}
+use borrow.Author.Rules.{rules}
+use Rattle.io.specs.Digits.{last_digits}
+use Rattle.decimal.specs.TextLaws.{laid_more, laid-all}
+use Rattle.decimal.proofs.text.lay.Given as goal
+
+abbrev pub invariant-loop-i : goal.invariant-loop-i
+invariant-loop-i l = (l.from ≤ l.i) × (l.i ≤ l.end) × (length l.initial.text ≡ length l.text) × (last_digits 10 (l.i - l.from) l.rest ++ drop l.i l.text ≡ last_digits 10 (l.end - l.from) l.n ++ drop l.end l.initial.text)
+
+abbrev pub decreases-loop-i : goal.decreases-loop-i
+decreases-loop-i l = l.i
