@@ -13,7 +13,7 @@ use kinds::{geometry_type, refusal};
 use wkb::Order;
 
 // A geometry, with so many levels left, its own among them.
-#[cycle(read_collection_read_geometry)]
+#[cycle(geometry)]
 fn read_geometry(
     log: &mut [u8],
     feature: u32,
@@ -56,7 +56,7 @@ fn read_geometry(
 }
 
 // A GeometryCollection behind its head, with so many levels left below it.
-#[cycle(read_collection_read_geometry)]
+#[cycle(geometry)]
 fn read_collection(
     log: &mut [u8],
     feature: u32,

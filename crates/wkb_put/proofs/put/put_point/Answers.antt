@@ -1,0 +1,14 @@
+use mathlib.Core.Path.{refl}
+use mathlib.Core.List.{◌++◌}
+use Rattle.laws.specs.Bytes.{le}
+use Rattle.laws.specs.Runs.{then}
+use Rattle.wkb_written.specs.Spelling.{head_bytes, pair_of}
+use borrow.Author.Rules.{rules}
+use Rattle.wkb_put.proofs.put.put_point.Reads as reads
+use Rattle.wkb_put.proofs.put.put_point.Lts as lts
+use Rattle.wkb_put.proofs.put.put_head.Reads as put-head-reads
+use Rattle.wkb_put.proofs.put.put_pair.Reads as put-pair-reads
+use Rattle.wkb_put.proofs.put.put_point.Goals as goal
+
+pub returns : goal.returns
+returns c = let a = c.args in then a.out.now (head_bytes 1) (pair_of a.x a.y) a.at 5 c.put_head.ensures refl c.put_pair.ensures
