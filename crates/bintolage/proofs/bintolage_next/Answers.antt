@@ -1,0 +1,11 @@
+use Rattle.writing.specs.declared.state.State.{State}
+use Rattle.writing.specs.State.{Mem, mem_of}
+use Rattle.writing.specs.Calls.{next_call}
+use Rattle.bintolage.specs.CallLaws.{kept_call}
+use borrow.Author.Rules.{rules}
+use Rattle.bintolage.proofs.bintolage_next.Goals as goal
+
+pub returns : goal.returns
+returns c =
+    let next = c.next-renewed in
+    kept_call (λ (s : State). next_call s ((mem_of c.args.table.now c.args.xy.now c.args.ends.now c.args.z.now c.args.m.now c.args.t.now c.args.tm.now))) c.args.state.now _ c.state_of.ensures next.ensures c.keep.ensures.value c.keep.ensures.words_after

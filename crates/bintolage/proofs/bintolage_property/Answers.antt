@@ -1,0 +1,16 @@
+use mathlib.Core.Path.{refl}
+use borrow.Author.Rules.{rules}
+use Rattle.bintolage.proofs.bintolage_property.Goals as goal
+
+
+
+pub returns : goal.returns
+returns c =
+    rw (
+      c.keep.ensures.value,
+      c.keep.ensures.words_after,
+      c.property-put.ensures.answer,
+      c.property-put.ensures.place,
+      c.state_of.ensures,
+    )
+    (record { answer = refl; words = refl; bytes = refl; place = refl })

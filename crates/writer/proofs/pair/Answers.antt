@@ -1,0 +1,15 @@
+use mathlib.Core.Path.{sym, ◌∙◌}
+use borrow.Author.Rules.{rules}
+use Rattle.writing.specs.Calls.{is_ready}
+use Rattle.runs.specs.Run.{pair-alone}
+use Rattle.writer.proofs.pair.Goals as goal
+
+
+
+pub returns : goal.returns
+returns c =
+    λ bytes number heard.
+    let a = c.args in
+    pair-alone a.s a.table.now a.xy.now a.ends.now a.z.now a.m.now a.t.now a.tm.now bytes number heard
+    (sym (c.is_ready.ensures ∙ (λ i. is_ready a.s (c.records_lent-records.ensures i) (c.new-pools.ensures i))))
+    c.take_alone.ensures.answer c.take_alone.ensures.words
