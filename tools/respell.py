@@ -17,6 +17,11 @@ MADE = re.compile(r"^(invariant|decreases|Inv|μ)-|-Inv-loop$")
 LENT = set("length take drop map append replicate sets set cond and or not zip sum fold filter nth".split())
 # A name whose plain spelling a library has, with what it is called.
 ASIDE = {"is-nan": "is_nan_lem"}
+# Names that no line of their own declares: constructors in a row, and what an import or a variable is called.
+ALSO = dict(
+    nextC="next_c", finishC="finish_c", dateTime="date_time", rootAt="root_at", curveOfS="curve_of_s", finishW="finish_w",
+    endAdded="added_end", isPair="is_pair", hasColumns="has_columns", eventRecords="event_records", takenWith="taken_with", eS="es_is",
+)
 
 
 def files(root, *endings):
@@ -87,7 +92,7 @@ def table(crates):
         assert taken.setdefault(new, name) == name, (name, new, taken[new])
         if new != name:
             rows[name] = new
-    return rows, {name: rows[name] for name in members if name in rows}
+    return rows | ALSO, {name: rows[name] for name in members if name in rows}
 
 
 def turned(text, rows):

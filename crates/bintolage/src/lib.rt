@@ -2,7 +2,7 @@
 ghost use Rattle.std.specs.Prelude.{◌≡◌, length};
 ghost use Rattle.laws.specs.Cut.{Said};
 ghost use Rattle.store.specs.Lists.{pools_of, record_with};
-ghost use Rattle.event_log.specs.Log.{events as eventRecords};
+ghost use Rattle.event_log.specs.Log.{events as event_records};
 ghost use Rattle.property_value.specs.Value.{placed};
 ghost use Rattle.property_reader.specs.Reading.{reading, bad_in, stopped as stopping};
 ghost use Rattle.event_log.specs.Values.{values};
@@ -18,7 +18,7 @@ ghost use Rattle.writer.specs.Property.{property_call, property_place};
 ghost use Rattle.kinds.specs.Flags.{flags_of};
 ghost use Rattle.bbox.specs.Edges.{edges_of};
 ghost use Rattle.as_words.specs.Words.{state_of, words_of, words_after};
-ghost use Rattle.bintolage.specs.Calls.{yes, one, kept, kept_of, taken as takenWith, taken_of};
+ghost use Rattle.bintolage.specs.Calls.{yes, one, kept, kept_of, taken as taken_with, taken_of};
 
 use as_words::state::{StateWords, keep, keep_all, state_of, words_of};
 use bbox::edges_of;
@@ -81,7 +81,7 @@ pub extern "C" fn bintolage_events(
     ensures { let before = mem_of table.old xy.old ends.old z.old m.old t.old tm.old in
         let after = mem_of table.new xy.new ends.new z.new m.new t.new tm.new in
         let words = state.old in
-        takenWith result taken.new state.new after ≡ taken_of words (events_call (state_of words) before events.now) }
+        taken_with result taken.new state.new after ≡ taken_of words (events_call (state_of words) before events.now) }
 {
     let before = *state;
     let took = many::events(state_of(before), events, table, xy, ends, z, m, t, tm);
@@ -177,7 +177,7 @@ pub extern "C" fn bintolage_read(
 ) -> u8
     ensures { let P = pools_of xy.now ends.now z.now m.now t.now tm.now in
         let script = read_s (flags_of flags) (record_with table.now P) declared in
-        Said (eventRecords feature) script log.old result count.new log.new }
+        Said (event_records feature) script log.old result count.new log.new }
 {
     let read = reader::read(
         table,
@@ -205,7 +205,7 @@ pub extern "C" fn bintolage_read_wkb(
     log: &mut [u8],
     count: &mut u32,
 ) -> u8
-    ensures { Said (eventRecords feature) (reading_r bytes.now) log.old result count.new log.new }
+    ensures { Said (event_records feature) (reading_r bytes.now) log.old result count.new log.new }
 {
     let read = wkb_reader::read_wkb(bytes, feature, log);
     *count = read.count as u32;

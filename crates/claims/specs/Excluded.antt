@@ -26,7 +26,7 @@ use Rattle.pending.specs.Room.{has_room}
 use Rattle.writer_model.specs.Bench.{polygon, four, rec}
 use Rattle.writer_model.specs.BenchCalls.{blank, b1_called, b2_called}
 use Rattle.writer_model.specs.Writer.{Writer, fresh}
-use Rattle.writer_model.specs.Call.{Call, event_c, finishC, nextC, called}
+use Rattle.writer_model.specs.Call.{Call, event_c, finish_c, next_c, called}
 use Rattle.writer_model.specs.Rows.{Reached, start}
 use Rattle.writer_model.specs.Fed.{given, takes, fed_to, fed_mem, pairs_of, first-heard, first-numbered, takes-rest, fed_rest}
 use Rattle.writer_model.specs.Feature.{finishes_in, finished_mem, next_mem, done, finished-is, renewed-is}
@@ -122,12 +122,12 @@ module _ (p : Program) (meets : Meets p) where
     finished-done = ap (λ (o : Kept). o.number) (meets.finish _ _) ∙ rw (all-given.state, all-given.mem) (done s n k w l es fits ok r)
 
     finished_comes : Comes (finished_by p n words k' es) (finished (fed_to s n k es)) (finished_mem s n k es)
-    finished_comes = rw (finished-is s n k w l es fits ok r) at (called_comes _ _ _ _ (record { state = all-given.state; mem = all-given.mem }) finishC _ (meets.finish _ _))
+    finished_comes = rw (finished-is s n k w l es fits ok r) at (called_comes _ _ _ _ (record { state = all-given.state; mem = all-given.mem }) finish_c _ (meets.finish _ _))
 
     passed_comes : (decide_next (finished (fed_to s n k es)) (records_lent k.table) (lent_of k.pools)).number ≡ 0 → Comes (passed_by p n words k' es) (renewed (finished (fed_to s n k es))) (next_mem s n k es)
     passed_comes goes =
         let all = finished_comes in
-        rw (renewed-is s n k w l es fits ok r goes) at (called_comes _ _ _ _ (record { state = all.state; mem = all.mem }) nextC _ (meets.next _ _))
+        rw (renewed-is s n k w l es fits ok r goes) at (called_comes _ _ _ _ (record { state = all.state; mem = all.mem }) next_c _ (meets.next _ _))
 
   -- ---- one that refuses everything
   pub refuses_everything : ((words : List ℕ) (k : Mem) (bytes : List ℕ) → (p.event words k bytes).number ≡ 0 → ⊥) → ⊥

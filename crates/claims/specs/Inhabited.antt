@@ -31,7 +31,7 @@ use Rattle.bintolage.specs.Calls.{yes, kept_of, taken_of}
 use Rattle.writer_model.specs.Writer.{fresh}
 use Rattle.writer_model.specs.BenchCalls.{blank}
 use Rattle.writer_model.specs.Example.{start-agrees}
-use Rattle.writer_model.specs.Call.{event_c, finishC, nextC}
+use Rattle.writer_model.specs.Call.{event_c, finish_c, next_c}
 use Rattle.writer_model.specs.Pairs.{pair_of, pending_at}
 use Rattle.writer_model.specs.Rows.{Reached, start as begins}
 use Rattle.writer_model.specs.Feature.{finishes_in, finished_mem, next_mem, finishes-same, whole_same, done, finished-is, finish_lengths, goes_on, renewed-is, next_lengths}
@@ -66,12 +66,12 @@ module _ (declared detect promote : ℕ) where
   finish-done : {words : List ℕ} {l : Lends} {a : Accepted} → (finish_call (state_of words) l.mem).wrote.number ≡ 0 → Row declared detect promote words l a
       → At (finish_call (state_of words) l.mem).wrote.state (lends (finish_call (state_of words) l.mem).mem l.buffer) (with_finish a)
   unfolding kept_of
-  finish-done {words} {l} {a} done row = record { words = _; holds = call_state words l.mem finishC; row = rw (eq-eqb _ 0 done) at (call finish row) }
+  finish-done {words} {l} {a} done row = record { words = _; holds = call_state words l.mem finish_c; row = rw (eq-eqb _ 0 done) at (call finish row) }
 
   next-done : {words : List ℕ} {l : Lends} {a : Accepted} → (next_call (state_of words) l.mem).wrote.number ≡ 0 → Row declared detect promote words l a
       → At (next_call (state_of words) l.mem).wrote.state (lends (next_call (state_of words) l.mem).mem l.buffer) (with_next a (pending_at (state_of words).pending.xy l.mem.pools.xy))
   unfolding kept_of
-  next-done {words} {l} {a} done row = record { words = _; holds = call_state words l.mem nextC; row = rw (eq-eqb _ 0 done) at (call next row) }
+  next-done {words} {l} {a} done row = record { words = _; holds = call_state words l.mem next_c; row = rw (eq-eqb _ 0 done) at (call next row) }
 
   put-done : {words : List ℕ} {l : Lends} {a : Accepted} (p : Property) → (put words p l.buffer).number ≡ 0 → Row declared detect promote words l a
       → At (put words p l.buffer).state (lends l.mem (bytes_put words p l.buffer)) (with_property a p)

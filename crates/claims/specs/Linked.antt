@@ -21,8 +21,8 @@ use Rattle.as_words.specs.Words.{state_of, words_after, words_after_all}
 use Rattle.as_words.specs.WordLaws.{InBytes, state-words}
 use Rattle.as_words.specs.Stays.{event-bytes, finish-bytes, next-bytes, started-bytes, words-bytes, kept-state, taken-state, untaken_same}
 use Rattle.bintolage.specs.Calls.{yes, kept_of, taken_of}
-use Rattle.writer_model.specs.Writer.{Writer, fresh, after, after_all, root_over, tree, finish as finishW, next as next_w}
-use Rattle.writer_model.specs.Call.{Call as Inner, event_c, finishC, nextC, called, hears, after_call}
+use Rattle.writer_model.specs.Writer.{Writer, fresh, after, after_all, root_over, tree, finish as finish_w, next as next_w}
+use Rattle.writer_model.specs.Call.{Call as Inner, event_c, finish_c, next_c, called, hears, after_call}
 use Rattle.writer_model.specs.Refused.{refused as unchanged}
 use Rattle.writer_model.specs.Pairs.{pair_of, parts_xy, all_xy_at}
 use Rattle.writer_model.specs.Rows.{pair_in, pairs_after, Reached, start as begin, lent as changed, accepted, property as written, row-pairs, accepted_pairs}
@@ -34,13 +34,13 @@ use Rattle.claims.specs.Row.{Call, event, events, property, finish, next, Lends,
 abbrev pub made : Writer → List Step → Writer
 made w [] = w
 made w (took n e ∷ steps) = made (after w e) steps
-made w (finished ∷ steps) = made (finishW w) steps
+made w (finished ∷ steps) = made (finish_w w) steps
 made w (renewed ∷ steps) = made (next_w w) steps
 
 pub made_then : (w : Writer) (first second : List Step) → made w (first ++ second) ≡ made (made w first) second
 made_then w [] second = refl
 made_then w (took n e ∷ first) second = made_then (after w e) first second
-made_then w (finished ∷ first) second = made_then (finishW w) first second
+made_then w (finished ∷ first) second = made_then (finish_w w) first second
 made_then w (renewed ∷ first) second = made_then (next_w w) first second
 
 pub made-events : (w : Writer) (es : List (ℕ × Event)) → made w (took_all es) ≡ after_all w (events_in es)
@@ -55,8 +55,8 @@ module _ (words : List ℕ) (k : Mem) where
 
   call_bytes : (c : Inner) → InBytes (outcome c).wrote.state.typing
   call_bytes (event_c bytes) = event-bytes (state_of words) (words-bytes words) k bytes
-  call_bytes finishC = finish-bytes (state_of words) (words-bytes words) k
-  call_bytes nextC = next-bytes (state_of words) (words-bytes words) k
+  call_bytes finish_c = finish-bytes (state_of words) (words-bytes words) k
+  call_bytes next_c = next-bytes (state_of words) (words-bytes words) k
 
   -- the words that are kept hold the state that the call hands back
   pub call_state : (c : Inner) → state_of (words_after words (outcome c).wrote) ≡ (outcome c).wrote.state
@@ -131,8 +131,8 @@ unfolding kept_of taken_of
 untaken_state words l (event bytes) h = call_state words l.mem (event_c bytes) ∙ (unchanged (state_of words) l.mem (event_c bytes) h).state
 untaken_state words l (events bytes) h = taken-state words bytes l.mem ∙ (untaken_same words bytes l.mem h).0
 untaken_state words l (property p) h = put-state words p l.buffer ∙ put_unchanged words p l.buffer h
-untaken_state words l finish h = call_state words l.mem finishC ∙ (unchanged (state_of words) l.mem finishC h).state
-untaken_state words l next h = call_state words l.mem nextC ∙ (unchanged (state_of words) l.mem nextC h).state
+untaken_state words l finish h = call_state words l.mem finish_c ∙ (unchanged (state_of words) l.mem finish_c h).state
+untaken_state words l next h = call_state words l.mem next_c ∙ (unchanged (state_of words) l.mem next_c h).state
 
 -- ---- any row
 module _ (declared detect promote : ℕ) where
@@ -174,16 +174,16 @@ module _ (declared detect promote : ℕ) where
         o = finish_call (state_of words) l.mem
 
         go : (b : Bool) → eqb o.wrote.number 0 ≡ b → let c = cond b (with_finish a) a in Reached (state_of (words_after words o.wrote)) o.mem (made first c.steps) c.pairs
-        go true is = as_is (sym (made_then first a.steps (finished ∷ []))) refl (call_done words l.mem finishC r (eqb-true o.wrote.number 0 is))
-        go false is = call_refused words l.mem finishC r (eqb-false o.wrote.number 0 is)
+        go true is = as_is (sym (made_then first a.steps (finished ∷ []))) refl (call_done words l.mem finish_c r (eqb-true o.wrote.number 0 is))
+        go false is = call_refused words l.mem finish_c r (eqb-false o.wrote.number 0 is)
     call_then next = go (eqb (next_call (state_of words) l.mem).wrote.number 0) refl
       where
         o : Outcome
         o = next_call (state_of words) l.mem
 
         go : (b : Bool) → eqb o.wrote.number 0 ≡ b → let c = cond b (with_next a (carried_by words l.mem)) a in Reached (state_of (words_after words o.wrote)) o.mem (made first c.steps) c.pairs
-        go true is = as_is (sym (made_then first a.steps (renewed ∷ []))) refl (call_done words l.mem nextC r (eqb-true o.wrote.number 0 is))
-        go false is = call_refused words l.mem nextC r (eqb-false o.wrote.number 0 is)
+        go true is = as_is (sym (made_then first a.steps (renewed ∷ []))) refl (call_done words l.mem next_c r (eqb-true o.wrote.number 0 is))
+        go false is = call_refused words l.mem next_c r (eqb-false o.wrote.number 0 is)
 
   -- after any row the lent memory is what a row of the writer's calls leaves: the writer on lists has taken the accepted steps
   pub row-reached : {words : List ℕ} {l : Lends} {a : Accepted} → Row declared detect promote words l a → Reached (state_of words) l.mem (made first a.steps) a.pairs
@@ -206,7 +206,7 @@ module _ (declared detect promote : ℕ) where
   linked_tree {words} {l} row root waits whole = row-tree (row-reached row) root waits l.mem (agrees_self (state_of words) l.mem) whole
 
   -- from an accepted finish until next
-  pub finished-tree : {words : List ℕ} {l : Lends} {a : Accepted} → Row declared detect promote words l a → (w : Writer) → made first a.steps ≡ finishW w
+  pub finished-tree : {words : List ℕ} {l : Lends} {a : Accepted} → Row declared detect promote words l a → (w : Writer) → made first a.steps ≡ finish_w w
       → table_good l.mem.table ≡ true → Holds (record_with l.mem.table l.mem.pools) 0 (tree w)
-  unfolding finishW
+  unfolding finish_w
   finished-tree {words} {l} row w e whole = row-tree (as_is e refl (row-reached row)) (root_over w w.parts) refl l.mem (agrees_self (state_of words) l.mem) whole

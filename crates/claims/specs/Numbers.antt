@@ -18,7 +18,7 @@ use Rattle.as_words.specs.Words.{state_of, words_after}
 use Rattle.as_words.specs.WordLaws.{state-words}
 use Rattle.as_words.specs.Stays.{started-bytes, taken-state}
 use Rattle.bintolage.specs.Calls.{yes, kept_of, taken_of}
-use Rattle.writer_model.specs.Call.{event_c, finishC, nextC}
+use Rattle.writer_model.specs.Call.{event_c, finish_c, next_c}
 use Rattle.writer_model.specs.Numbers.{feature-after, event-own}
 use Rattle.writer_model.specs.Refused.{refused as unchanged}
 use Rattle.claims.specs.Row.{Call, event, events, property, finish, next, Lends, Step, took, finished, renewed, took_all, Accepted, with_events, with_property, with_finish, with_next, carried_by, heard_in, heard_from, put, leaves, accepts, Row, start, lent, call, untaken}
@@ -150,22 +150,22 @@ module _ (declared detect promote : ℕ) where
         o = finish_call (state_of words) l.mem
 
         state : state_of (words_after words o.wrote) ≡ o.wrote.state
-        state = call_state words l.mem finishC
+        state = call_state words l.mem finish_c
 
         go : (b : Bool) → eqb o.wrote.number 0 ≡ b → OneNumber (state_of (words_after words o.wrote)).feature (cond b (with_finish a) a).steps
-        go true is = more (finished ∷ []) (ap (λ (s : State). s.feature) state ∙ feature-after (state_of words) l.mem finishC (eqb-true o.wrote.number 0 is)) tt so_far
-        go false is = stays (state ∙ (unchanged (state_of words) l.mem finishC (eqb-false o.wrote.number 0 is)).state)
+        go true is = more (finished ∷ []) (ap (λ (s : State). s.feature) state ∙ feature-after (state_of words) l.mem finish_c (eqb-true o.wrote.number 0 is)) tt so_far
+        go false is = stays (state ∙ (unchanged (state_of words) l.mem finish_c (eqb-false o.wrote.number 0 is)).state)
     call_then next = go (eqb o.wrote.number 0) refl
       where
         o : Outcome
         o = next_call (state_of words) l.mem
 
         state : state_of (words_after words o.wrote) ≡ o.wrote.state
-        state = call_state words l.mem nextC
+        state = call_state words l.mem next_c
 
         go : (b : Bool) → eqb o.wrote.number 0 ≡ b → OneNumber (state_of (words_after words o.wrote)).feature (cond b (with_next a (carried_by words l.mem)) a).steps
-        go true is = more (renewed ∷ []) (ap (λ (s : State). s.feature) state ∙ feature-after (state_of words) l.mem nextC (eqb-true o.wrote.number 0 is)) tt so_far
-        go false is = stays (state ∙ (unchanged (state_of words) l.mem nextC (eqb-false o.wrote.number 0 is)).state)
+        go true is = more (renewed ∷ []) (ap (λ (s : State). s.feature) state ∙ feature-after (state_of words) l.mem next_c (eqb-true o.wrote.number 0 is)) tt so_far
+        go false is = stays (state ∙ (unchanged (state_of words) l.mem next_c (eqb-false o.wrote.number 0 is)).state)
 
   -- after any row: what the state holds, and that no two events of one feature have two numbers
   pub linked_number : {words : List ℕ} {l : Lends} {a : Accepted} → Row declared detect promote words l a → OneNumber (state_of words).feature a.steps

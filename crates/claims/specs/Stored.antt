@@ -25,7 +25,7 @@ use Rattle.as_words.specs.Words.{state_of, words_after}
 use Rattle.as_words.specs.WordLaws.{state-words}
 use Rattle.as_words.specs.Stays.{started-bytes, taken-state}
 use Rattle.bintolage.specs.Calls.{yes, kept_of, taken_of}
-use Rattle.writer_model.specs.Call.{Call as Inner, event_c, finishC, nextC, called}
+use Rattle.writer_model.specs.Call.{Call as Inner, event_c, finish_c, next_c, called}
 use Rattle.writer_model.specs.Properties.{properties_after, properties_after_lem}
 use Rattle.writer_model.specs.Refused.{refused as unchanged}
 use Rattle.claims.specs.Row.{Call, event, events, property, finish, next, Lends, Accepted, with_events, with_property, with_finish, with_next, carried_by, heard_in, put, bytes_put, leaves, accepts, Row, start, lent, call, untaken}
@@ -103,17 +103,17 @@ module _ (declared detect promote : ℕ) where
     call_then finish = go (eqb (finish_call (state_of words) l.mem).wrote.number 0)
       where
         go : (b : Bool) → Stored l.buffer (state_of (words_after words (finish_call (state_of words) l.mem).wrote)).properties (cond b (with_finish a) a).properties
-        go true = counts (sym (kept-count words l.mem finishC refl)) h
-        go false = counts (sym (kept-count words l.mem finishC refl)) h
+        go true = counts (sym (kept-count words l.mem finish_c refl)) h
+        go false = counts (sym (kept-count words l.mem finish_c refl)) h
     call_then next = go (eqb (next_call (state_of words) l.mem).wrote.number 0) refl
       where
         state : state_of (words_after words (next_call (state_of words) l.mem).wrote) ≡ (next_call (state_of words) l.mem).wrote.state
-        state = call_state words l.mem nextC
+        state = call_state words l.mem next_c
 
         go : (b : Bool) → eqb (next_call (state_of words) l.mem).wrote.number 0 ≡ b
             → Stored l.buffer (state_of (words_after words (next_call (state_of words) l.mem).wrote)).properties (cond b (with_next a (carried_by words l.mem)) a).properties
-        go true is = empty l.buffer (ap (λ (s : State). s.properties) state ∙ properties_after_lem (state_of words) l.mem nextC (eqb-true _ 0 is))
-        go false is = counts (ap (λ (s : State). s.properties) (sym (state ∙ (unchanged (state_of words) l.mem nextC (eqb-false _ 0 is)).state))) h
+        go true is = empty l.buffer (ap (λ (s : State). s.properties) state ∙ properties_after_lem (state_of words) l.mem next_c (eqb-true _ 0 is))
+        go false is = counts (ap (λ (s : State). s.properties) (sym (state ∙ (unchanged (state_of words) l.mem next_c (eqb-false _ 0 is)).state))) h
 
   row-stored : {words : List ℕ} {l : Lends} {a : Accepted} → Row declared detect promote words l a → Stored l.buffer (state_of words).properties a.properties
   unfolding started

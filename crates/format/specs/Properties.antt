@@ -8,7 +8,7 @@ pub data Number : Type 0 where
   byte ubyte bool short ushort int uint long ulong float double : Number
 
 pub data Sized : Type 0 where
-  string json dateTime binary : Sized
+  string json date_time binary : Sized
 
 -- a number by its bits, a signed one's in two's complement; or bytes
 pub data Value : Type 0 where
@@ -41,7 +41,7 @@ form_of double = form 10 8 18446744073709551616
 abbrev pub sized_type : Sized → ℕ
 sized_type string = 11
 sized_type json = 12
-sized_type dateTime = 13
+sized_type date_time = 13
 sized_type binary = 14
 
 abbrev pub type_of : Value → ℕ
@@ -52,7 +52,7 @@ type_of (sized k bytes) = sized_type k
 abbrev pub Spelt : Sized → List ℕ → Type 0
 Spelt string bytes = is_utf8 bytes ≡ true
 Spelt json bytes = is_utf8 bytes ≡ true
-Spelt dateTime bytes = is_utf8 bytes ≡ true
+Spelt date_time bytes = is_utf8 bytes ≡ true
 Spelt binary bytes = Unit {0}
 
 abbrev pub Fits : Value → Type 0

@@ -17,14 +17,14 @@ use Rattle.event_log.specs.Values.{values}
 use Rattle.properties.specs.ReadBack.{Writable, value_back, read_back}
 use Rattle.property_reader.specs.ReadingLaws.{read-end, read_whole}
 use Rattle.geometries.specs.Told.{told, Complete, said_complete}
-use Rattle.format.specs.Properties.{Number, byte, ubyte, bool, short, ushort, int, uint, long, ulong, float, double, Sized, string, json, dateTime, binary, Value, number, sized, form_of, sized_type, type_of, Spelt, Fits, value_bytes, Property, property_bytes, buffer_of, Keyed, AllKeyed}
+use Rattle.format.specs.Properties.{Number, byte, ubyte, bool, short, ushort, int, uint, long, ulong, float, double, Sized, string, json, date_time, binary, Value, number, sized, form_of, sized_type, type_of, Spelt, Fits, value_bytes, Property, property_bytes, buffer_of, Keyed, AllKeyed}
 
 -- ---- types by their numbers
 abbrev number_of : ℕ → Number
 number_of type = get_or (byte ∷ ubyte ∷ bool ∷ short ∷ ushort ∷ int ∷ uint ∷ long ∷ ulong ∷ float ∷ double ∷ []) type byte
 
 abbrev sized_of : ℕ → Sized
-sized_of type = get_or (string ∷ json ∷ dateTime ∷ []) (type - 11) binary
+sized_of type = get_or (string ∷ json ∷ date_time ∷ []) (type - 11) binary
 
 number_type : (type : ℕ) → type < 11 → (form_of (number_of type)).type ≡ type
 number_type type h = eqb-true _ type (every-at (λ n. eqb (form_of (number_of n)).type n) 0 11 type refl (omega arith) (omega arith))
@@ -58,21 +58,21 @@ formed double = record { wide = refl; below = omega arith; least = omega arith; 
 pub sized_above : (k : Sized) → (11 ≤ sized_type k) × (sized_type k ≤ 14)
 sized_above string = (omega arith, omega arith)
 sized_above json = (omega arith, omega arith)
-sized_above dateTime = (omega arith, omega arith)
+sized_above date_time = (omega arith, omega arith)
 sized_above binary = (omega arith, omega arith)
 
 spelt : (k : Sized) (bytes : List ℕ) → text_ok (sized_type k) bytes ≡ true → Spelt k bytes
 unfolding text_ok is_text
 spelt string bytes h = h
 spelt json bytes h = h
-spelt dateTime bytes h = h
+spelt date_time bytes h = h
 spelt binary bytes h = tt
 
 text_ok_lem : (k : Sized) (bytes : List ℕ) → Spelt k bytes → text_ok (sized_type k) bytes ≡ true
 unfolding text_ok is_text
 text_ok_lem string bytes h = h
 text_ok_lem json bytes h = h
-text_ok_lem dateTime bytes h = h
+text_ok_lem date_time bytes h = h
 text_ok_lem binary bytes h = refl
 
 -- ---- a value as it is handed to put_property
@@ -143,7 +143,7 @@ well_formed_lem (sized k bytes) f = go k f.1
     go : (k : Sized) → Spelt k bytes → (malformed (sized_type k) 0 ≡ false) × (text_ok (sized_type k) bytes ≡ true)
     go string s = (refl, s)
     go json s = (refl, s)
-    go dateTime s = (refl, s)
+    go date_time s = (refl, s)
     go binary s = (refl, refl)
 
 pub put-takes : (used : ℕ) (p : Property) (lent : ℕ) → p.column < 65536 → Fits p.value → used + length (property_bytes p) ≤ lent → used + length (property_bytes p) ≤ 65536 → refusal_of false used p.column (type_of p.value) (bits_in p.value) (bytes_in p.value) lent ≡ 0

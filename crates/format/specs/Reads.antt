@@ -13,7 +13,7 @@ use Rattle.kinds.specs.declared.flags.Flags.{Flags}
 use Rattle.store.specs.Lists.{Rec}
 use Rattle.coords.specs.Coords.{coords_of}
 use Rattle.lines.specs.Lines.{or_none, polygon_s, triangle_s}
-use Rattle.reader.specs.Reading.{parts_s, span_s, polygon_part, curve_of as curveOfS, curve_s, kind_s, geometry_s, root_s, read_s}
+use Rattle.reader.specs.Reading.{parts_s, span_s, polygon_part, curve_of as curve_of_s, curve_s, kind_s, geometry_s, root_s, read_s}
 use Rattle.geometries.specs.Geometry.{Line, Coord, Segment, straight, arc, Curve, segment, compound, Surface, flat, curved, Simple, point, line_string, polygon, multi_point, multi_line_string, multi_polygon, circular_string, compound_curve, curve_polygon, multi_curve, multi_surface, polyhedral_surface, tin, triangle, simple, collection, Geometry, type_of, deep, flatly, curve_depth, surface_depth, simple_depth, depth}
 use Rattle.geometries.specs.Events.{Tells, each, group, line_of, triangle_of, segment_of, curve_of, surface_of, simple_of, geometry_of, events_of}
 use Rattle.format.specs.Format.{Coords, Lines, Each, Parts, IsSegment, IsCurve, IsSurface, Is, Means, Tree}
@@ -107,12 +107,12 @@ module _ (F : Flags) (get : ℕ → Option Rec) where
     polygon_part_lem (suc l) n i p ls k e b h = rw e (polygon-read p ls false i k h (room n p e))
 
     -- ---- curves: `above` is the stored type of what the part stands in
-    segment_read : (deeper : Rec → ℕ → ℕ → Script Event) (above : ℕ) (p : Rec) (s : Segment) (i : ℕ) (k : List Event) → IsSegment get p s → curveOfS F deeper above p i ⨟ told k ≡ told (segment_of F s i k)
-    unfolding curveOfS
+    segment_read : (deeper : Rec → ℕ → ℕ → Script Event) (above : ℕ) (p : Rec) (s : Segment) (i : ℕ) (k : List Event) → IsSegment get p s → curve_of_s F deeper above p i ⨟ told k ≡ told (segment_of F s i k)
+    unfolding curve_of_s
     segment_read deeper above p (straight l) i k h = rw (line-chosen p.kind above _ _ _ _ _ h.0) (flat-read F (coords_of F p) l 2 false i k (shows F p l h.1))
     segment_read deeper above p (arc l) i k h = rw (arc_chosen p.kind above _ _ _ _ _ h.0) (flat-read F (coords_of F p) l 8 false i k (shows F p l h.1))
 
-    curve_span : {A : Type 0} (M : Rec → A → Type 0) (f : Tells A) (d : A → ℕ) (r : Rec) → ((l : ℕ) (p : Rec) (a : A) (i : ℕ) (k : List Event) → Small p → d a ≤ l → M p a → curveOfS F (curve_s F l get) r.kind p i ⨟ told k ≡ told (f a i k)) → (l : ℕ) (xs : List A) (type i : ℕ) (k : List Event) → Parts get M r xs → deep d xs ≤ l → curve_s F l get r type i ⨟ told k ≡ told (group type false f xs i k)
+    curve_span : {A : Type 0} (M : Rec → A → Type 0) (f : Tells A) (d : A → ℕ) (r : Rec) → ((l : ℕ) (p : Rec) (a : A) (i : ℕ) (k : List Event) → Small p → d a ≤ l → M p a → curve_of_s F (curve_s F l get) r.kind p i ⨟ told k ≡ told (f a i k)) → (l : ℕ) (xs : List A) (type i : ℕ) (k : List Event) → Parts get M r xs → deep d xs ≤ l → curve_s F l get r type i ⨟ told k ≡ told (group type false f xs i k)
     unfolding curve_s
     curve_span M f d r one zero xs type i k h b = span_read M _ f d 0 (λ n j p a k' e q m. absurd (omega arith)) r xs type i k h b
     curve_span M f d r one (suc l) xs type i k h b = span_read M _ f d (suc l) (λ n j p a k' e q m. rw e (one l p a j k' (room n p e) (omega arith) m)) r xs type i k h b
@@ -120,16 +120,16 @@ module _ (F : Flags) (get : ℕ → Option Rec) where
     compound_read : (l : ℕ) (r : Rec) (ss : List Segment) (type i : ℕ) (k : List Event) → Parts get (IsSegment get) r ss → deep flatly ss ≤ l → curve_s F l get r type i ⨟ told k ≡ told (group type false (segment_of F) ss i k)
     compound_read l r ss type i k h b = curve_span (IsSegment get) (segment_of F) flatly r (λ l' p s j k' q d m. segment_read _ _ p s j k' m) l ss type i k h b
 
-    curve_read : (above l : ℕ) (p : Rec) (c : Curve) (i : ℕ) (k : List Event) → not (eqb above 9) ≡ true → curve_depth c ≤ l → IsCurve get p c → curveOfS F (curve_s F l get) above p i ⨟ told k ≡ told (curve_of F c i k)
-    unfolding curveOfS
+    curve_read : (above l : ℕ) (p : Rec) (c : Curve) (i : ℕ) (k : List Event) → not (eqb above 9) ≡ true → curve_depth c ≤ l → IsCurve get p c → curve_of_s F (curve_s F l get) above p i ⨟ told k ≡ told (curve_of F c i k)
+    unfolding curve_of_s
     curve_read above l p (segment s) i k n d h = segment_read (curve_s F l get) above p s i k h
     curve_read above l p (compound ss) i k n d h = rw (compound_chosen p.kind above _ _ _ _ _ h.0 n) (compound_read l p ss 9 i k h.1 d)
 
     curves_read : (l : ℕ) (r : Rec) (cs : List Curve) (type i : ℕ) (k : List Event) → not (eqb r.kind 9) ≡ true → Parts get (IsCurve get) r cs → deep curve_depth cs ≤ l → curve_s F l get r type i ⨟ told k ≡ told (group type false (curve_of F) cs i k)
     curves_read l r cs type i k n h b = curve_span (IsCurve get) (curve_of F) curve_depth r (λ l' p c j k' q d m. curve_read r.kind l' p c j k' n d m) l cs type i k h b
 
-    surface_read : (above l : ℕ) (p : Rec) (s : Surface) (i : ℕ) (k : List Event) → above ≡ 12 → Small p → surface_depth s ≤ l → IsSurface get p s → curveOfS F (curve_s F l get) above p i ⨟ told k ≡ told (surface_of F s i k)
-    unfolding curveOfS
+    surface_read : (above l : ℕ) (p : Rec) (s : Surface) (i : ℕ) (k : List Event) → above ≡ 12 → Small p → surface_depth s ≤ l → IsSurface get p s → curve_of_s F (curve_s F l get) above p i ⨟ told k ≡ told (surface_of F s i k)
+    unfolding curve_of_s
     surface_read above l p (flat rs) i k n b d h = rw (polygon-chosen p.kind above _ _ _ _ _ h.0 n) (polygon-read p rs true i k h.1 b)
     surface_read above l p (curved cs) i k n b d h = rw (curved_chosen p.kind above _ _ _ _ _ h.0 n) (curves_read l p cs 10 i k (rw h.0) h.1 d)
 

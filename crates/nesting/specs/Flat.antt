@@ -9,9 +9,9 @@ abbrev pub is_type : ℕ → Bool
 is_type n = leb 1 n && leb n 7
 
 -- kinds 1 to 7 begin, 33 to 39 end, 64 is a pair; a geometry of these types has no other
-abbrev pub read_as : (is_begin is_end isPair : Bool) → Flat → Event
-read_as true is_end isPair e = begin (numbered e.kind) e.tagged e.size e.idx
-read_as false true isPair e = end (numbered (e.kind - 32)) e.tagged e.idx
+abbrev pub read_as : (is_begin is_end is_pair : Bool) → Flat → Event
+read_as true is_end is_pair e = begin (numbered e.kind) e.tagged e.size e.idx
+read_as false true is_pair e = end (numbered (e.kind - 32)) e.tagged e.idx
 read_as false false true e = pair e.x e.y e.idx
 read_as false false false e = strange e.kind
 

@@ -64,8 +64,8 @@ bounds_there e = (sym (ap start_of e), sym (ap (λ (s : Span). start_of s + coun
 pub own_is : (F : Flags) (P : Pools) (g : Geometry) (own : Own) (idx : ℕ) {S : Seen} {xy ends z m t tm : List ℕ}
     → S ≡ seen_of F g → xy ≡ words_of P.xy g.xy → ends ≡ words_of P.ends g.ends → z ≡ words_of P.z g.z → m ≡ words_of P.m g.m → t ≡ words_of P.t g.t → tm ≡ words_of P.tm g.tm
     → own_s own (coords_of F (lists_of P g)) (or_none (list_of P.ends g.ends)) idx ≡ own_s own (coords_in S xy z m t tm) ends idx
-own_is F P g own idx eS exy eends ez em et etm =
-    rw (eS, exy, eends, ez, em, et, etm)
+own_is F P g own idx es_is exy eends ez em et etm =
+    rw (es_is, exy, eends, ez, em, et, etm)
     (sym (ap (λ (C : Coords). own_s own C (words_of P.ends g.ends) idx) (coords_is F P g)
     ∙ ap (λ (e : List ℕ). own_s own (coords_of F (lists_of P g)) e idx) (words-is P.ends g.ends)))
 

@@ -112,20 +112,20 @@ unfolding on_item
 bad_is bytes columns last place t =
     same_bad bytes columns last t.at t.reached ∙ on_unrolled end_place keep_place bytes columns last t.at ∙ rw (bad_item bytes columns last place t)
 
-module _ (bytes : List ℕ) (hasColumns : Bool) (columns : List ℕ) (last : ℕ) where
-  script_bad : number_of (reading bytes hasColumns columns last) ≡ 6 → RefusedText (take 65536 bytes) columns last (bad_in bytes hasColumns columns last)
+module _ (bytes : List ℕ) (has_columns : Bool) (columns : List ℕ) (last : ℕ) where
+  script_bad : number_of (reading bytes has_columns columns last) ≡ 6 → RefusedText (take 65536 bytes) columns last (bad_in bytes has_columns columns last)
   unfolding number_of
   script_bad =
-      every-reading bytes hasColumns columns last (λ s place. number_of s ≡ 6 → RefusedText (take 65536 bytes) columns last place) (λ e. absurd (omega arith))
+      every-reading bytes has_columns columns last (λ s place. number_of s ≡ 6 → RefusedText (take 65536 bytes) columns last place) (λ e. absurd (omega arith))
       (λ at number r e. absurd (item_other (take 65536 bytes) columns at number r e))
       (λ at place reached r e. item_bad (take 65536 bytes) columns last at place reached r)
       (λ at next value s place r f later. later)
 
   -- a reading that answers 6, which a log that is full before it does not
-  pub read_bad : (log after : List ℕ) (count : ℕ) → Said values (reading bytes hasColumns columns last) log 6 count after
-      → RefusedText (take 65536 bytes) columns last (bad_in bytes hasColumns columns last)
-  read_bad log after count h = go (leb (length (records_of (reading bytes hasColumns columns last))) (room_of values.wide log)) h.number_is
+  pub read_bad : (log after : List ℕ) (count : ℕ) → Said values (reading bytes has_columns columns last) log 6 count after
+      → RefusedText (take 65536 bytes) columns last (bad_in bytes has_columns columns last)
+  read_bad log after count h = go (leb (length (records_of (reading bytes has_columns columns last))) (room_of values.wide log)) h.number_is
     where
-      go : (t : Bool) → 6 ≡ cond t (number_of (reading bytes hasColumns columns last)) 9 → RefusedText (take 65536 bytes) columns last (bad_in bytes hasColumns columns last)
+      go : (t : Bool) → 6 ≡ cond t (number_of (reading bytes has_columns columns last)) 9 → RefusedText (take 65536 bytes) columns last (bad_in bytes has_columns columns last)
       go true e = script_bad (sym e)
       go false e = absurd (omega arith)

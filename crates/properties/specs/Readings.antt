@@ -26,14 +26,14 @@ pub data Reached (bytes columns : List ℕ) (last : ℕ) : ℕ → Type 0 where
       → Reached bytes columns last next
 
 -- what holds of every end, and is kept by a value that is said before it, holds of every reading, by what it has to say and the place of the bad byte
-pub every-reading : (bytes : List ℕ) (hasColumns : Bool) (columns : List ℕ) (last : ℕ) (P : Script Value → ℕ → Type 0) → P (stop 0) 0
+pub every-reading : (bytes : List ℕ) (has_columns : Bool) (columns : List ℕ) (last : ℕ) (P : Script Value → ℕ → Type 0) → P (stop 0) 0
     → ((at number : ℕ) → item_at (take 65536 bytes) columns at ≡ Refused number → P (stop number) 0)
     → ((at place : ℕ) → Reached (take 65536 bytes) columns last at → item_at (take 65536 bytes) columns at ≡ NotUtf8 place → P (stop 6) place)
     → ((at next : ℕ) (value : Value) (s : Script Value) (place : ℕ) → item_at (take 65536 bytes) columns at ≡ Found value next
     → (eqb value.column last ≡ true → s ≡ stop 0) → P s place → P (say value s) place)
-    → P (reading bytes hasColumns columns last) (bad_in bytes hasColumns columns last)
+    → P (reading bytes has_columns columns last) (bad_in bytes has_columns columns last)
 unfolding on_bytes on_from on_up_to on_item
-every-reading bytes hasColumns columns last P ends refused bad says = with_columns hasColumns
+every-reading bytes has_columns columns last P ends refused bad says = with_columns has_columns
   where
     named : (t : Bool) (s : Script Value) → t ≡ true → cond t (stop 0) s ≡ stop 0
     named t s e = rw e
@@ -88,26 +88,26 @@ pub record EndsIn (column : ℕ) (l : List Value) : Type 0 where
   pub same : l ≡ front ++ (value ∷ [])
   pub named : value.column ≡ column
 
-module _ (bytes : List ℕ) (hasColumns : Bool) (columns : List ℕ) (last : ℕ) where
-  ends_as : Memᴰ (number_of (reading bytes hasColumns columns last)) (0 ∷ refusals)
+module _ (bytes : List ℕ) (has_columns : Bool) (columns : List ℕ) (last : ℕ) where
+  ends_as : Memᴰ (number_of (reading bytes has_columns columns last)) (0 ∷ refusals)
   unfolding number_of RefusesAs
   ends_as =
-      every-reading bytes hasColumns columns last (λ s place. Memᴰ (number_of s) (0 ∷ refusals)) (Memᴰ.head refl)
+      every-reading bytes has_columns columns last (λ s place. Memᴰ (number_of s) (0 ∷ refusals)) (Memᴰ.head refl)
       (λ at number e. Memᴰ.tail (rw e at (refuses (take 65536 bytes) columns at))) (λ at place r e. Memᴰ.tail (Memᴰ.tail (Memᴰ.tail (Memᴰ.head refl))))
       (λ at next value s place e f h. h)
 
-  pub answers_as : (log after : List ℕ) (number count : ℕ) → run values (reading bytes hasColumns columns last) log 0 ≡ out number count after
+  pub answers_as : (log after : List ℕ) (number count : ℕ) → run values (reading bytes has_columns columns last) log 0 ≡ out number count after
       → Memᴰ number (0 ∷ refusals)
   answers_as log after number count h =
       rw (said values h).number_is
-      (either (λ n. Memᴰ n (0 ∷ refusals)) (leb (length (records_of (reading bytes hasColumns columns last))) (room_of values.wide log)) _ _ (λ e. ends_as)
+      (either (λ n. Memᴰ n (0 ∷ refusals)) (leb (length (records_of (reading bytes has_columns columns last))) (room_of values.wide log)) _ _ (λ e. ends_as)
       (λ e. Memᴰ.tail (Memᴰ.tail (Memᴰ.tail (Memᴰ.tail (Memᴰ.head refl))))))
 
   -- no refusal comes after the named column's value
-  pub stops_done : says last (reading bytes hasColumns columns last) ≡ true → number_of (reading bytes hasColumns columns last) ≡ 0
+  pub stops_done : says last (reading bytes has_columns columns last) ≡ true → number_of (reading bytes has_columns columns last) ≡ 0
   unfolding number_of says
   stops_done =
-      every-reading bytes hasColumns columns last (λ s place. says last s ≡ true → number_of s ≡ 0) (λ e. refl) (λ at number e h. absurd (never h)) (λ at place r e h. absurd (never h))
+      every-reading bytes has_columns columns last (λ s place. says last s ≡ true → number_of s ≡ 0) (λ e. refl) (λ at number e h. absurd (never h)) (λ at place r e h. absurd (never h))
       (λ at next value s place e f later. go (eqb value.column last) s f later)
     where
       go : (t : Bool) (s : Script Value) → (t ≡ true → s ≡ stop 0) → (says last s ≡ true → number_of s ≡ 0) → (t || says last s) ≡ true → number_of s ≡ 0
@@ -115,10 +115,10 @@ module _ (bytes : List ℕ) (hasColumns : Bool) (columns : List ℕ) (last : ℕ
       go false s f later h = later h
 
   -- no value comes after the named column's value
-  pub stops_last : says last (reading bytes hasColumns columns last) ≡ true → EndsIn last (records_of (reading bytes hasColumns columns last))
+  pub stops_last : says last (reading bytes has_columns columns last) ≡ true → EndsIn last (records_of (reading bytes has_columns columns last))
   unfolding records_of says
   stops_last =
-      every-reading bytes hasColumns columns last (λ s place. says last s ≡ true → EndsIn last (records_of s)) (λ h. absurd (never h)) (λ at number e h. absurd (never h)) (λ at place r e h. absurd (never h))
+      every-reading bytes has_columns columns last (λ s place. says last s ≡ true → EndsIn last (records_of s)) (λ h. absurd (never h)) (λ at number e h. absurd (never h)) (λ at place r e h. absurd (never h))
       (λ at next value s place e f later. go value (eqb value.column last) refl s f later)
     where
       go : (value : Value) (t : Bool) → eqb value.column last ≡ t → (s : Script Value) → (eqb value.column last ≡ true → s ≡ stop 0)
@@ -153,12 +153,12 @@ column_small bytes at b =
     let most : 256 ^ length part ≤ 256 ^ 2 = pow-le-pow_right (lit< tt) short in
     omega (arith, unle_lt part (part_bytes 2 at bytes b))
 
-pub never_stops : (bytes : List ℕ) (hasColumns : Bool) (columns : List ℕ) (last number : ℕ) → Bytes bytes → 65536 ≤ last
-    → stopped last (reading bytes hasColumns columns last) number ≡ false
+pub never_stops : (bytes : List ℕ) (has_columns : Bool) (columns : List ℕ) (last number : ℕ) → Bytes bytes → 65536 ≤ last
+    → stopped last (reading bytes has_columns columns last) number ≡ false
 unfolding stopped says ColumnIs
-never_stops bytes hasColumns columns last number b h =
+never_stops bytes has_columns columns last number b h =
     and_false (eqb number 0) _
-    (every-reading bytes hasColumns columns last (λ s place. says last s ≡ false) refl (λ at number e. refl) (λ at place r e. refl)
+    (every-reading bytes has_columns columns last (λ s place. says last s ≡ false) refl (λ at number e. refl) (λ at place r e. refl)
     (λ at next value s place e f later.
     let same : value.column ≡ word_at 2 (take 65536 bytes) at = rw e at (column_is (take 65536 bytes) columns at) in
     let small = column_small (take 65536 bytes) at (part_bytes 65536 0 bytes b) in

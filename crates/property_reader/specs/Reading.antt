@@ -70,7 +70,7 @@ module _ {R : Type 0} (ended : ℕ → ℕ → R) (said : Value → R → R) whe
 
   -- with no column list, nothing (SPEC 9.6); 65,536 property bytes are usable (SPEC 4.2)
   unfoldable pub on_bytes : List ℕ → Bool → List ℕ → ℕ → R
-  on_bytes bytes hasColumns columns last = cond hasColumns (on_from (take 65536 bytes) columns last 0) (ended 0 0)
+  on_bytes bytes has_columns columns last = cond has_columns (on_from (take 65536 bytes) columns last 0) (ended 0 0)
 
 -- ---- what it has to say
 

@@ -15,7 +15,7 @@ use Rattle.asking.specs.declared.ask.Ask.{Ask}
 use Rattle.pending.specs.Words.{words, pending_of}
 use Rattle.writing.specs.State.{fresh, with_typing, with_pending, pool_in, pools_by}
 use Rattle.asking.specs.SetType.{with_mode}
-use Rattle.asking.specs.Ask.{no_words, pair_with, ask, ask_of, begun, calmed, pushes_end, collects, end_if as endAdded}
+use Rattle.asking.specs.Ask.{no_words, pair_with, ask, ask_of, begun, calmed, pushes_end, collects, end_if as added_end}
 use Rattle.writing.specs.Calls.{gives}
 use Rattle.writer_model.specs.Writer.{Writer, retyped, holding, finish_part, part_if, typed_to, pushed, coordinate, end_pushed, end_if, calm, line_end, polygon_end, after}
 
@@ -25,7 +25,7 @@ ask_by h e b x i j k l =
     cond b (ask (begun h e) no_words false)
     (cond x (ask (Set h) (pair_with e.present) false)
     (cond i (ask (Set h) no_words (collects h))
-    (cond j (ask (Set (calmed h e.tagged)) (endAdded (pushes_end h e.tagged)) (collects h))
+    (cond j (ask (Set (calmed h e.tagged)) (added_end (pushes_end h e.tagged)) (collects h))
     (cond k (ask (Set (calmed h e.tagged)) no_words (pushes_end h e.tagged || collects h))
     (cond l (ask (Set (with_mode h 0)) no_words false)
     (ask (Set h) no_words false))))))
@@ -52,7 +52,7 @@ module _ (w : Writer) (e : Event) where
   unfolding coordinate
   pair_added = simp (append-nil, pushed-is)
 
-  end_added : (on : Bool) → extended w (endAdded on) e ≡ end_if on w
+  end_added : (on : Bool) → extended w (added_end on) e ≡ end_if on w
   unfolding end_pushed
   end_added true = simp append-nil
   end_added false = simp append-nil
@@ -108,7 +108,7 @@ module _ (w : Writer) (e : Event) where
       go true x i j k l q = typed-is (begun w.typing e) h q ∙ acts (begun w.typing e) no_words false h w none_added
       go false true i j k l q = let z : w.typing ≡ h = cc in paired ∙ ap (retyped (coordinate w e)) z ∙ acts _ (pair_with e.present) false h _ pair_added
       go false false true j k l q = let z : w.typing ≡ h = cc in parted m ∙ ap (retyped (part_if m w)) z ∙ acts _ no_words m h w none_added
-      go false false false true k l q = let z : c ≡ h = cc in ended p m e.tagged ∙ ap (retyped (part_if m (end_if p w))) z ∙ acts _ (endAdded p) m h _ (end_added p)
+      go false false false true k l q = let z : c ≡ h = cc in ended p m e.tagged ∙ ap (retyped (part_if m (end_if p w))) z ∙ acts _ (added_end p) m h _ (end_added p)
       go false false false false true l q = let z : c ≡ h = cc in ended false (p || m) e.tagged ∙ ap (retyped (part_if (p || m) w)) z ∙ acts _ no_words (p || m) h w none_added
       go false false false false false true q = let z : with_mode w.typing 0 ≡ h = cc in ap (retyped w) z ∙ acts _ no_words false h w none_added
       go false false false false false false q = let z : w.typing ≡ h = cc in ap (retyped w) z ∙ acts _ no_words false h w none_added

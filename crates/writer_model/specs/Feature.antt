@@ -12,7 +12,7 @@ use Rattle.writing.specs.State.{Mem}
 use Rattle.writing.specs.Calls.{finished, decide_finish, finish_call, renewed, decide_next, next_call}
 use Rattle.writer_model.specs.Writer.{Writer, after_all, root_over, finish, tree, next}
 use Rattle.writer_model.specs.Took.{took-finish, took-next}
-use Rattle.writer_model.specs.Call.{finishC, nextC}
+use Rattle.writer_model.specs.Call.{finish_c, next_c}
 use Rattle.writer_model.specs.Lengths.{SameLengths, lent_same, call_lengths}
 use Rattle.writer_model.specs.Pairs.{pending_at}
 use Rattle.writer_model.specs.Rows.{Reached, accepted, row_stands}
@@ -55,7 +55,7 @@ module _ (s : State) (n : ℕ) (k : Mem) (w : Writer) (l : List ℕ) (es : List 
 
   pub finish_lengths : SameLengths k (finished_mem s n k es)
   finish_lengths =
-      let kept = call_lengths end left finishC done in
+      let kept = call_lengths end left finish_c done in
       record { table = kept.table ∙ so_far.lengths.table; pools = λ m. kept.pools m ∙ so_far.lengths.pools m }
 
   pub finished-is : (finish_call end left).wrote.state ≡ finished end
@@ -63,7 +63,7 @@ module _ (s : State) (n : ℕ) (k : Mem) (w : Writer) (l : List ℕ) (es : List 
   finished-is = ap (λ r. r.state) (took-finish end left done).is
 
   pub finish-reached : Reached (finished end) (finished_mem s n k es) (finish (after_all w es)) (l ++ pairs_of es)
-  finish-reached = rw finished-is at (accepted finishC done so_far.reached)
+  finish-reached = rw finished-is at (accepted finish_c done so_far.reached)
 
   -- the tree is read from the memory that finish leaves
   pub tree-left : table_good k.table ≡ true → Holds (record_with (finished_mem s n k es).table (finished_mem s n k es).pools) 0 (tree (after_all w es))
@@ -83,9 +83,9 @@ module _ (s : State) (n : ℕ) (k : Mem) (w : Writer) (l : List ℕ) (es : List 
     renewed-is = ap (λ r. r.state) (took-next (finished end) (finished_mem s n k es) goes_on).is
 
     pub next-reached : Reached (renewed (finished end)) (next_mem s n k es) (next (finish (after_all w es))) (pending_at (finished end).pending.xy (finished_mem s n k es).pools.xy)
-    next-reached = rw renewed-is at (accepted nextC goes_on finish-reached)
+    next-reached = rw renewed-is at (accepted next_c goes_on finish-reached)
 
     pub next_lengths : SameLengths k (next_mem s n k es)
     next_lengths =
-        let kept = call_lengths (finished end) (finished_mem s n k es) nextC goes_on in
+        let kept = call_lengths (finished end) (finished_mem s n k es) next_c goes_on in
         record { table = kept.table ∙ finish_lengths.table; pools = λ m. kept.pools m ∙ finish_lengths.pools m }

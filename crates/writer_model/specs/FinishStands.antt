@@ -19,7 +19,7 @@ use Rattle.writing.specs.declared.state.State.{State}
 use Rattle.pending.specs.Words.{words_in}
 use Rattle.writing.specs.State.{with_waiting, with_pending, Mem, memory}
 use Rattle.asking.specs.Ask.{no_words}
-use Rattle.pending.specs.Growth.{omitted, past, past_all, part_of as part_at, root_over as rootAt}
+use Rattle.pending.specs.Growth.{omitted, past, past_all, part_of as part_at, root_over as root_at}
 use Rattle.writing.specs.Calls.{finished, root_of, finish_call}
 use Rattle.writer_model.specs.Writer.{Writer, writer, root_over, finish}
 use Rattle.writer_model.specs.Laid.{words_of, joined}
@@ -31,18 +31,18 @@ use Rattle.writer_model.specs.Pool.{lies_past}
 use Rattle.writer_model.specs.PartShown.{part_ends, part_sized, part_shown}
 
 -- ---- the record of a root with type and parts alone
-root-sized : (kind parts : ℕ) → parts ≤ 4096 → GeometrySized (rootAt kind parts)
-unfolding rootAt
+root-sized : (kind parts : ℕ) → parts ≤ 4096 → GeometrySized (root_at kind parts)
+unfolding root_at
 root-sized kind parts most = record { xy = absent; ends = absent; z = absent; m = absent; t = absent; tm = absent; parts = record { start = omega arith; count = omega arith } }
   where
     absent : SpanSized Absent
     absent = record { start = omega arith; count = omega arith }
 
-root-shown : (s : State) (table : List ℕ) (P : Pools) (kind kind' n : ℕ) → kind ≡ kind' → s.parts ≡ n → s.parts + 1 ≤ 4096 → record_in table 0 ≡ Good (rootAt kind s.parts)
+root-shown : (s : State) (table : List ℕ) (P : Pools) (kind kind' n : ℕ) → kind ≡ kind' → s.parts ≡ n → s.parts + 1 ≤ 4096 → record_in table 0 ≡ Good (root_at kind s.parts)
     → Shows s (memory table P) 0 (record { kind = kind'; xy = none; ends = none; z = none; m = none; t = none; tm = none; parts = some (1, n) })
-unfolding rootAt
+unfolding root_at
 root-shown s table P kind kind' n e f most r = record {
-  geometry = rootAt kind s.parts;
+  geometry = root_at kind s.parts;
   read = r;
   lists = λ i. record { kind = e i; xy = none; ends = none; z = none; m = none; t = none; tm = none; parts = some (1, f i) };
   below = by_lane _ tt tt tt tt tt tt;
@@ -74,7 +74,7 @@ module _ (s : State) (k : Mem) (h : Typing) (pending : Pools) (room : Room s.pen
 
   -- parts: a root with type and parts alone
   over_stands : (p : Rec) (ps : List Rec) → Stands s k (writer h pending (p ∷ ps) none)
-      → Stands (with_waiting s true) (memory (put_record k.table 0 (rootAt s.typing.current s.parts)) k.pools) (finish (writer h pending (p ∷ ps) none))
+      → Stands (with_waiting s true) (memory (put_record k.table 0 (root_at s.typing.current s.parts)) k.pools) (finish (writer h pending (p ∷ ps) none))
   unfolding finish
   over_stands p ps st = record {
     typing = st.typing;
@@ -83,11 +83,11 @@ module _ (s : State) (k : Mem) (h : Typing) (pending : Pools) (room : Room s.pen
     most = st.most;
     starts = λ n. st.starts n ∙ ap (λ (l : List ℕ). length (l ++ joined (p ∷ ps) n)) (sym (bare n));
     pending = st.pending;
-    parts = parts-still s k _ _ (record { pools = λ m. refl; starts = λ m. omega arith; parts = omega arith }) (p ∷ ps) (λ i b c. put_other k.table 0 (rootAt s.typing.current s.parts) in_table i (λ z. omega arith)) st.parts;
+    parts = parts-still s k _ _ (record { pools = λ m. refl; starts = λ m. omega arith; parts = omega arith }) (p ∷ ps) (λ i b c. put_other k.table 0 (root_at s.typing.current s.parts) in_table i (λ z. omega arith)) st.parts;
     root = root-shown _ _ k.pools s.typing.current h.current (length (p ∷ ps)) (ap (λ (x : Typing). x.current) st.typing) st.count st.most written;
   }
     where
-      written : record_in (put_record k.table 0 (rootAt s.typing.current s.parts)) 0 ≡ Good (rootAt s.typing.current s.parts)
+      written : record_in (put_record k.table 0 (root_at s.typing.current s.parts)) 0 ≡ Good (root_at s.typing.current s.parts)
       written = put_same k.table 0 _ in_table (root-sized s.typing.current s.parts (omega (arith, st.most)))
 
       bare : (n : Lane) → words_of (root_over (writer h pending (p ∷ ps) none) (p ∷ ps)) n ≡ []

@@ -22,7 +22,7 @@ use Rattle.writing.specs.Calls.{gives, table_after, pool_after, mem_after, event
 use Rattle.pending.specs.Growth.{grown_all, part_of}
 use Rattle.writer_model.specs.Lanes.{pool_by}
 use Rattle.writer_model.specs.Took.{took-event, took-finish, took-next}
-use Rattle.writer_model.specs.Call.{Call, event_c, finishC, nextC, called}
+use Rattle.writer_model.specs.Call.{Call, event_c, finish_c, next_c, called}
 
 pub record SameLengths (k k' : Mem) : Type 0 where
   pub table : length k'.table ≡ length k.table
@@ -56,8 +56,8 @@ module _ (s : State) (k : Mem) where
   pub call_lengths : (c : Call) → (called s k c).wrote.number ≡ 0 → SameLengths k (called s k c).mem
   unfolding event_call finish_call next_call
   call_lengths (event_c bytes) q = heard_lengths (feature_in bytes) (heard bytes) q
-  call_lengths finishC q = rw (took-finish s k q).is (record { table = put-length k.table 0 (root_of s); pools = λ n. refl })
-  call_lengths nextC q =
+  call_lengths finish_c q = rw (took-finish s k q).is (record { table = put-length k.table 0 (root_of s); pools = λ n. refl })
+  call_lengths next_c q =
       let t = took-next s k q in
       rw t.is (record {
         table = refl;

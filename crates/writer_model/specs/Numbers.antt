@@ -16,12 +16,12 @@ use Rattle.writing.specs.Ends.{another_feature}
 use Rattle.writing.specs.Other.{after-held}
 use Rattle.writing.specs.Calls.{event_with, event_of, event_call, finished, finish_call, renewed, next_call}
 use Rattle.writer_model.specs.Took.{took-event, took-finish, took-next}
-use Rattle.writer_model.specs.Call.{Call, event_c, finishC, nextC, called}
+use Rattle.writer_model.specs.Call.{Call, event_c, finish_c, next_c, called}
 
 abbrev pub feature_after : Call → Feature → Feature
 feature_after (event_c bytes) f = Numbered (feature_in bytes)
-feature_after finishC f = f
-feature_after nextC f = Open
+feature_after finish_c f = f
+feature_after next_c f = Open
 
 module _ (s : State) (k : Mem) where
   heard-feature : (n : ℕ) (p : Parsed) → (event_of s k n p).wrote.number ≡ 0 → (event_of s k n p).wrote.state.feature ≡ Numbered n
@@ -35,8 +35,8 @@ module _ (s : State) (k : Mem) where
   pub feature-after : (c : Call) → (called s k c).wrote.number ≡ 0 → (called s k c).wrote.state.feature ≡ feature_after c s.feature
   unfolding event_call finish_call finished next_call renewed
   feature-after (event_c bytes) q = heard-feature (feature_in bytes) (heard bytes) q
-  feature-after finishC q = rw (took-finish s k q).is
-  feature-after nextC q = rw (took-next s k q).is
+  feature-after finish_c q = rw (took-finish s k q).is
+  feature-after next_c q = rw (took-next s k q).is
 
   heard-own : (n : ℕ) (p : Parsed) → (event_of s k n p).wrote.number ≡ 0 → belongs s.feature n ≡ true
   unfolding event_with

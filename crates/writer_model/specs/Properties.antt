@@ -13,12 +13,12 @@ use Rattle.writing.specs.State.{Mem}
 use Rattle.asking.specs.Ask.{ask, ask_of}
 use Rattle.writing.specs.Calls.{state_after, event_with, event_of, event_call, finished, finish_call, renewed, next_call}
 use Rattle.writer_model.specs.Took.{took-event, took-finish, took-next}
-use Rattle.writer_model.specs.Call.{Call, event_c, finishC, nextC, called}
+use Rattle.writer_model.specs.Call.{Call, event_c, finish_c, next_c, called}
 
 abbrev pub properties_after : Call → ℕ → ℕ
 properties_after (event_c bytes) n = n
-properties_after finishC n = n
-properties_after nextC n = 0
+properties_after finish_c n = n
+properties_after next_c n = 0
 
 asked_properties : (s : State) (n : ℕ) (typed : Typed) (added : Added) (part : Bool) (h : Typing) → (state_after s n (ask typed added part) h).properties ≡ s.properties
 unfolding state_after
@@ -36,5 +36,5 @@ heard_properties s k n (WellFormed e) q =
 pub properties_after_lem : (s : State) (k : Mem) (c : Call) → (called s k c).wrote.number ≡ 0 → (called s k c).wrote.state.properties ≡ properties_after c s.properties
 unfolding event_call finish_call finished next_call renewed
 properties_after_lem s k (event_c bytes) q = heard_properties s k (feature_in bytes) (heard bytes) q
-properties_after_lem s k finishC q = rw (took-finish s k q).is
-properties_after_lem s k nextC q = rw (took-next s k q).is
+properties_after_lem s k finish_c q = rw (took-finish s k q).is
+properties_after_lem s k next_c q = rw (took-next s k q).is

@@ -21,7 +21,7 @@ use Rattle.writer_model.specs.Writer.{Writer, waits, nay}
 use Rattle.writer_model.specs.Stands.{Stands}
 use Rattle.writer_model.specs.Took.{room}
 use Rattle.writer_model.specs.Asked.{ask_by}
-use Rattle.writer_model.specs.Call.{Call, event_c, finishC, nextC, called, nay_heard, nay_call, answer}
+use Rattle.writer_model.specs.Call.{Call, event_c, finish_c, next_c, called, nay_heard, nay_call, answer}
 
 -- ---- nothing changes
 pub record Unchanged (s : State) (k : Mem) (o : Outcome) : Type 0 where
@@ -33,8 +33,8 @@ unchanged e = record { state = ap (λ (o : Outcome). o.wrote.state) e; mem = ap 
 
 pub refused : (s : State) (k : Mem) (c : Call) → ((called s k c).wrote.number ≡ 0 → ⊥) → Unchanged s k (called s k c)
 refused s k (event_c bytes) h = unchanged (event_unchanged s k bytes h)
-refused s k finishC h = unchanged (finish_unchanged s k h)
-refused s k nextC h = unchanged (next_unchanged s k h)
+refused s k finish_c h = unchanged (finish_unchanged s k h)
+refused s k next_c h = unchanged (next_unchanged s k h)
 
 -- ---- the numbers
 nay-is : (w : Writer) (e : Event) → nay w e ≡ cond (waits w) 15 (typed_number (ask_of w.typing e).typed)
@@ -83,5 +83,5 @@ module _ (s : State) (k : Mem) (w : Writer) (h : Stands s k w) where
   pub number_is : (c : Call) → (r : Bool) × ((called s k c).wrote.number ≡ answer (nay_call s.feature w c) r)
   unfolding event_call finish_call decide_finish next_call decide_next
   number_is (event_c bytes) = heard-number (feature_in bytes) (heard bytes)
-  number_is finishC = let r : Bool = room s.pending no_words (s.parts + 1) k in (r, rw (← h.waiting) (turn-number s.waiting r (finished s)))
-  number_is nextC = let r : Bool = room s.pending no_words (s.parts + 1) k in (r, rw (← h.waiting) (wait_number s.waiting r (renewed s)))
+  number_is finish_c = let r : Bool = room s.pending no_words (s.parts + 1) k in (r, rw (← h.waiting) (turn-number s.waiting r (finished s)))
+  number_is next_c = let r : Bool = room s.pending no_words (s.parts + 1) k in (r, rw (← h.waiting) (wait_number s.waiting r (renewed s)))

@@ -19,7 +19,7 @@ use Rattle.writer_model.specs.Took.{took-event, took-finish}
 use Rattle.writer_model.specs.EventStands.{event_stands}
 use Rattle.writer_model.specs.FinishStands.{finish_stands}
 use Rattle.writer_model.specs.NextStands.{next_stands}
-use Rattle.writer_model.specs.Call.{Call, event_c, finishC, nextC, called, hears, after_call}
+use Rattle.writer_model.specs.Call.{Call, event_c, finish_c, next_c, called, hears, after_call}
 use Rattle.writer_model.specs.Refused.{refused}
 use Rattle.writer_model.specs.Pairs.{pair_of, all_xy, event_xy, finish_xy, next_xy, xy_at, pending_at, parts_xy, all_xy_at, xy_is}
 
@@ -30,8 +30,8 @@ pair_in (WellFormed e) = pair_of e
 -- the pairs carried in by the last next, and then those accepted; next carries in what is pending
 abbrev pub pairs_after : State → Mem → Call → List ℕ → List ℕ
 pairs_after s k (event_c bytes) l = l ++ pair_in (heard bytes)
-pairs_after s k finishC l = l
-pairs_after s k nextC l = pending_at s.pending.xy k.pools.xy
+pairs_after s k finish_c l = l
+pairs_after s k next_c l = pending_at s.pending.xy k.pools.xy
 
 -- ---- one accepted call
 module _ (s : State) (k : Mem) (w : Writer) (h : Stands s k w) where
@@ -42,8 +42,8 @@ module _ (s : State) (k : Mem) (w : Writer) (h : Stands s k w) where
   pub call_stands : (c : Call) → (called s k c).wrote.number ≡ 0 → Stands (called s k c).wrote.state (called s k c).mem (after_call w c)
   unfolding event_call
   call_stands (event_c bytes) q = heard_stands (feature_in bytes) (heard bytes) q
-  call_stands finishC q = finish_stands s k w h q
-  call_stands nextC q = next_stands s k w h q
+  call_stands finish_c q = finish_stands s k w h q
+  call_stands next_c q = next_stands s k w h q
 
   heard_xy : (n : ℕ) (p : Parsed) → (event_of s k n p).wrote.number ≡ 0 → all_xy (hears w p) ≡ all_xy w ++ pair_in p
   unfolding event_with
@@ -55,8 +55,8 @@ module _ (s : State) (k : Mem) (w : Writer) (h : Stands s k w) where
   call_xy : (c : Call) (l : List ℕ) → (called s k c).wrote.number ≡ 0 → all_xy w ≡ l → all_xy (after_call w c) ≡ pairs_after s k c l
   unfolding event_call finish_call
   call_xy (event_c bytes) l q e = heard_xy (feature_in bytes) (heard bytes) q ∙ ap (λ (x : List ℕ). x ++ pair_in (heard bytes)) e
-  call_xy finishC l q e = finish_xy w (no_root s k w h (took-finish s k q).going) ∙ e
-  call_xy nextC l q e = next_xy w ∙ sym (h.pending xyL).there
+  call_xy finish_c l q e = finish_xy w (no_root s k w h (took-finish s k q).going) ∙ e
+  call_xy next_c l q e = next_xy w ∙ sym (h.pending xyL).there
 
 -- ---- any row: between calls all that the state does not use of the memory may change, and properties may be written; a refused call may be lent anything
 pub data Reached : State → Mem → Writer → List ℕ → Type 0 where

@@ -11,6 +11,7 @@ returns c =
       c.keep.ensures.words_after,
       c.property-put.ensures.answer,
       c.property-put.ensures.place,
+      c.property-put.ensures.bytes,
       c.state_of.ensures,
     )
     (record { answer = refl; words = refl; bytes = refl; place = refl })
