@@ -1,4 +1,6 @@
 // Every call that a machine builder links, on plain numbers and lent memory. `bintolage_c` gives them their C names.
+#![tactic(auto)]
+
 ghost use Rattle.std.specs.Prelude.{◌≡◌, length};
 ghost use Rattle.laws.specs.Cut.{Said};
 ghost use Rattle.store.specs.Lists.{pools_of, record_with};
@@ -191,12 +193,7 @@ pub fn bintolage_read(
 
 // Well-known binary as events from the log's start, each under the feature's number, and how many. Refused: at each field 18, then 19; 13
 // behind a member's type; 9 at each record; 20 at the end.
-pub fn bintolage_read_wkb(
-    bytes: &[u8],
-    feature: u32,
-    log: &mut [u8],
-    count: &mut u32,
-) -> u8
+pub fn bintolage_read_wkb(bytes: &[u8], feature: u32, log: &mut [u8], count: &mut u32) -> u8
     ensures { Said (event_records feature) (reading_r bytes.now) log.old result count.new log.new }
 {
     let read = wkb_reader::read_wkb(bytes, feature, log);

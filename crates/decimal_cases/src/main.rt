@@ -1,4 +1,6 @@
 // Prints the numbers of standard input in decimal, one to a line: oracle/lists/decimals.py makes them, and what is to be printed.
+#![tactic(auto)]
+
 ghost use Rattle.std.specs.Prelude.{◌<◌};
 
 use console::{end_line, say_double, say_float};
