@@ -4,8 +4,6 @@ use native.Mathlib.Omega.{arith}
 use Rattle.nesting.specs.Taking.{ample, holds_by, point_holds, other_holds}
 use Rattle.nesting.proofs.frame.may_hold.Goals as goal
 
-
-
 pub returns-then-kind-eq-POINT : goal.returns-then-kind-eq-POINT
 returns-then-kind-eq-POINT c =
     λ type e.

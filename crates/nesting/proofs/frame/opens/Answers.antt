@@ -2,8 +2,6 @@ use mathlib.Core.Path.{ap, ◌∙◌}
 use Rattle.nesting.specs.Taking.{opens_by, opens-is}
 use Rattle.nesting.proofs.frame.opens.Goals as goal
 
-
-
 pub returns : goal.returns
 returns c =
     λ type e.

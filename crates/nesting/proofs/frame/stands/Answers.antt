@@ -4,8 +4,6 @@ use Rattle.nesting.specs.Machine.{number}
 use Rattle.nesting.specs.Taking.{stands_by, stands_is}
 use Rattle.nesting.proofs.frame.stands.Goals as goal
 
-
-
 pub returns : goal.returns
 returns c =
     λ around type e f.

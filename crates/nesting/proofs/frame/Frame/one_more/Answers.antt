@@ -3,8 +3,6 @@ use borrow.Author.Rules.{rules}
 use Rattle.nesting.specs.Taking.{more-is}
 use Rattle.nesting.proofs.frame.Frame.one_more.Goals as goal
 
-
-
 pub returns-then-self : goal.returns-then-self
 returns-then-self c =
     λ g is less.

@@ -2,8 +2,6 @@ use borrow.Author.Rules.{rules}
 use Rattle.nesting.specs.Taking.{begin-taken}
 use Rattle.nesting.proofs.frame.Frame.takes_begin.Goals as goal
 
-
-
 pub returns : goal.returns
 returns c =
     λ g is type e level.
