@@ -1,8 +1,6 @@
 use borrow.Author.Rules.{rules}
 use Rattle.tree_walk.proofs.parts_of.Goals as goal
 
-
-
 pub returns-in-Absent : goal.returns-in-Absent
 returns-in-Absent c = rw c.in-Absent.is
 
