@@ -139,14 +139,15 @@ function look_up_name(word) {
         fault("no " quoted(word) " in " (file == "" ? "crate " quoted(crate) : quoted("crates/" crate "/specs/" file ".antt")))
 }
 
-# A word with an underscore, behind a crate: an edit, unless the crate has such a function, constant or module.
+# A word with an underscore, behind a crate: an edit, unless the crate has such a function, constant or module, or its specs/ or proofs/ such
+# a definition or theorem.
 function look_up_edit(word) {
     if ((crate, word) in edits)
         name_edit(word)
-    else if ((crate, word) in of_crate || (crate, word) in member_names)
+    else if ((crate, word) in of_crate || (crate, word) in member_names || (crate, word) in spec_names)
         counts["names"]++
     else
-        fault("no edit " quoted(word) " in crate " quoted(crate))
+        fault("no edit, function or definition " quoted(word) " in crate " quoted(crate))
 }
 function name_edit(word) {
     counts["edits"]++

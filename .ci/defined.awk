@@ -1,5 +1,5 @@
 # What the sources define, a line each, its fields parted by tabs:
-#   name CRATE FILE NAME     a definition or theorem of crates/CRATE/specs/FILE.antt; FILE.Record.field is NAME Record.field
+#   name CRATE FILE NAME     a definition or theorem of FILE.antt in crates/CRATE/specs or proofs; FILE.Record.field is NAME Record.field
 #   spec CRATE FILE          that file
 #   fn CRATE TYPE NAME       a function of crates/CRATE/src; TYPE is - where it belongs to none
 #   item CRATE TYPE NAME     a constant, type or module of it, or what TYPE has
@@ -14,7 +14,7 @@ FNR == 1 {
     sub(/^crates\//, "", crate)
     sub(/\/.*/, "", crate)
     file = base(FILENAME)
-    is_spec = FILENAME ~ /^crates\/[^\/]*\/specs\/[^\/]*\.antt$/
+    is_spec = FILENAME ~ /^crates\/[^\/]*\/(specs|proofs)\/[^\/]*\.antt$/
     is_code = FILENAME ~ /^crates\/[^\/]*\/src\/.*\.rt$/
     within = ""
     type = "-"

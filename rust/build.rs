@@ -1,4 +1,4 @@
-//! Links libbintolage.a: from the folder that BINTOLAGE_LIB names, or from where `rt staticlib bintolage` leaves it.
+//! Links libbintolage.a: from the folder that BINTOLAGE_LIB names, or from where `tools/archive` leaves it.
 use std::env;
 use std::path::PathBuf;
 
@@ -8,7 +8,7 @@ fn main() {
     let library = folder.join("libbintolage.a");
     if !library.exists() {
         panic!(
-            "{} is missing: make it by `rt staticlib bintolage`, or name its folder in BINTOLAGE_LIB",
+            "{} is missing: make it by `tools/archive`, or name its folder in BINTOLAGE_LIB",
             library.display()
         );
     }

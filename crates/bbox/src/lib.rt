@@ -1,4 +1,6 @@
 // Boxes over words that are doubles as bit patterns.
+#![tactic(auto)]
+
 mod edges;
 
 ghost use Rattle.std.specs.Prelude.{◌≡◌};

@@ -1,4 +1,6 @@
-// The library that a machine builder links: every call, on plain numbers and lent memory.
+// Every call that a machine builder links, on plain numbers and lent memory. `bintolage_c` gives them their C names.
+#![tactic(auto)]
+
 ghost use Rattle.std.specs.Prelude.{◌≡◌, length};
 ghost use Rattle.laws.specs.Cut.{Said};
 ghost use Rattle.store.specs.Lists.{pools_of, record_with};
@@ -26,8 +28,7 @@ use kinds::event::Bare;
 use kinds::flags::Flags;
 
 // A writer's first state. 0 is no, all else yes.
-#[unsafe(no_mangle)]
-pub extern "C" fn bintolage_start(state: &mut StateWords, declared: u8, detect: u8, promote: u8)
+pub fn bintolage_start(state: &mut StateWords, declared: u8, detect: u8, promote: u8)
     ensures { state.new ≡ words_of (started declared (yes detect) (yes promote)) }
 {
     let first = words_of(writer::start(declared, detect != 0, promote != 0));
@@ -35,8 +36,7 @@ pub extern "C" fn bintolage_start(state: &mut StateWords, declared: u8, detect: 
 }
 
 // Takes an event's record. Refused: 11, 15, 17, 5, 12.
-#[unsafe(no_mangle)]
-pub extern "C" fn bintolage_event(
+pub fn bintolage_event(
     state: &mut StateWords,
     event: &[u8],
     table: &mut [u8],
@@ -65,8 +65,7 @@ pub extern "C" fn bintolage_event(
 }
 
 // Takes events' records one after the other, until one is refused, and says how many. Refused: 11, 15, 17, 5, 12.
-#[unsafe(no_mangle)]
-pub extern "C" fn bintolage_events(
+pub fn bintolage_events(
     state: &mut StateWords,
     events: &[u8],
     table: &mut [u8],
@@ -90,8 +89,7 @@ pub extern "C" fn bintolage_events(
 
 // Lays a value down after the feature's other property bytes. With 6 the place is that of the text's first bad byte, counted from the
 // text's first; with any other answer it is 0. Refused: 15, 16, 11, 6, 12.
-#[unsafe(no_mangle)]
-pub extern "C" fn bintolage_property(
+pub fn bintolage_property(
     state: &mut StateWords,
     column: u32,
     column_type: u8,
@@ -116,8 +114,7 @@ pub extern "C" fn bintolage_property(
 }
 
 // Lays the feature's root down, and has it wait. Refused: 15, 12.
-#[unsafe(no_mangle)]
-pub extern "C" fn bintolage_finish(
+pub fn bintolage_finish(
     state: &mut StateWords,
     table: &mut [u8],
     xy: &[u64],
@@ -138,8 +135,7 @@ pub extern "C" fn bintolage_finish(
 }
 
 // Leaves a finished feature behind, and carries what is still pending into the next. Refused: 15, 12.
-#[unsafe(no_mangle)]
-pub extern "C" fn bintolage_next(
+pub fn bintolage_next(
     state: &mut StateWords,
     table: &[u8],
     xy: &mut [u64],
@@ -160,8 +156,7 @@ pub extern "C" fn bintolage_next(
 }
 
 // The tree whose root is record 0, as events from the log's start, each under the feature's number, and how many.
-#[unsafe(no_mangle)]
-pub extern "C" fn bintolage_read(
+pub fn bintolage_read(
     table: &[u8],
     xy: &[u64],
     ends: &[u32],
@@ -198,13 +193,7 @@ pub extern "C" fn bintolage_read(
 
 // Well-known binary as events from the log's start, each under the feature's number, and how many. Refused: at each field 18, then 19; 13
 // behind a member's type; 9 at each record; 20 at the end.
-#[unsafe(no_mangle)]
-pub extern "C" fn bintolage_read_wkb(
-    bytes: &[u8],
-    feature: u32,
-    log: &mut [u8],
-    count: &mut u32,
-) -> u8
+pub fn bintolage_read_wkb(bytes: &[u8], feature: u32, log: &mut [u8], count: &mut u32) -> u8
     ensures { Said (event_records feature) (reading_r bytes.now) log.old result count.new log.new }
 {
     let read = wkb_reader::read_wkb(bytes, feature, log);
@@ -214,8 +203,7 @@ pub extern "C" fn bintolage_read_wkb(
 
 // Events' records, which are one geometry's, as little-endian well-known binary from the start of `out` on, and how many bytes: none where it
 // is refused. Refused, each over the whole list: 11, 21, 13, 12.
-#[unsafe(no_mangle)]
-pub extern "C" fn bintolage_write_wkb(events: &[u8], out: &mut [u8], written: &mut usize) -> u8
+pub fn bintolage_write_wkb(events: &[u8], out: &mut [u8], written: &mut usize) -> u8
     ensures { let due = writing events.now (length out.old) in
         Did due out.old result written.new out.new }
 {
@@ -227,8 +215,7 @@ pub extern "C" fn bintolage_write_wkb(events: &[u8], out: &mut [u8], written: &m
 // The values of property bytes, as value records from the log's start, how many, and whether the reading stopped after the named column
 // (0 or 1). With 6 the place is that of the refused text's first bad byte, counted from the text's first; with any other answer it is 0.
 // Refused: 2, 14, 6, 9.
-#[unsafe(no_mangle)]
-pub extern "C" fn bintolage_read_properties(
+pub fn bintolage_read_properties(
     bytes: &[u8],
     has_columns: u8,
     columns: &[u8],
@@ -253,8 +240,7 @@ pub extern "C" fn bintolage_read_properties(
 }
 
 // The box of record n, over its own pairs and then each part's, as bit patterns. Refused: 13, 10, with the beginning box.
-#[unsafe(no_mangle)]
-pub extern "C" fn bintolage_box(
+pub fn bintolage_box(
     table: &[u8],
     xy: &[u64],
     ends: &[u32],

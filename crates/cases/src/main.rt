@@ -1,4 +1,6 @@
 // Runs the store, property bytes, the geometry reader and that of well-known binary on the cases of standard input, and counts what differs.
+#![tactic(auto)]
+
 mod blank;
 
 use replay::{Next, Tally, first, number, tally};

@@ -1,4 +1,6 @@
 // Rows of bytes compared, and whether a feature came back as it was given.
+#![tactic(auto)]
+
 ghost use Rattle.std.specs.Prelude.{◌≡◌};
 ghost use Rattle.compared.specs.Compared.{Exactly, Common, AsGiven};
 

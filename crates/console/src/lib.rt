@@ -1,4 +1,6 @@
 // What the programs of this house say to people: numbers, types, refusals and events in plain words, on standard output.
+#![tactic(auto)]
+
 mod event;
 mod map;
 mod number;

@@ -1,4 +1,6 @@
 // A record's pairs, with what stands beside them, and the walk over a stretch of them.
+#![tactic(auto)]
+
 mod coords;
 mod pairs;
 mod window;

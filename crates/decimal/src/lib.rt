@@ -1,4 +1,6 @@
 // A double or a float, by its bit pattern, as a decimal number with seven digits behind the point, rounded half to even.
+#![tactic(auto)]
+
 mod finite;
 mod fraction;
 mod text;

@@ -1,9 +1,12 @@
 // Prints the numbers of standard input in decimal, one to a line: oracle/lists/decimals.py makes them, and what is to be printed.
+#![tactic(auto)]
+
 ghost use Rattle.std.specs.Prelude.{◌<◌};
 
 use console::{end_line, say_double, say_float};
-use libc::STDIN_FILENO;
 use numbers::{u32_at, u64_at};
+
+const STDIN: i32 = 0;
 
 // A letter, then eight bytes, of which a float has the first four.
 const RECORD_BYTES: usize = 9;
@@ -21,7 +24,7 @@ fn show(number: [u8; RECORD_BYTES]) {
 
 fn show_next() -> bool {
     let mut number = [0u8; RECORD_BYTES];
-    if io::read_full(STDIN_FILENO, &mut number) < RECORD_BYTES {
+    if io::read_full(STDIN, &mut number) < RECORD_BYTES {
         return false;
     }
     show(number);

@@ -1,4 +1,6 @@
 // The records of logs, events and values, as bytes: little-endian, spare bytes zero. Each function works on the bytes of one record.
+#![tactic(auto)]
+
 mod event;
 mod head;
 mod value;

@@ -1,4 +1,6 @@
 // Logs in lent memory: events, said and heard, and values. No record's bytes show above it.
+#![tactic(auto)]
+
 mod events;
 mod room;
 mod values;

@@ -64,7 +64,7 @@ lane_seen false h = record { is = refl }
 -- ---- ends
 pub ends-length : (n : ℕ) (ls : List Line) → length (ends_from n ls) ≡ length ls
 ends-length n [] = refl
-ends-length n (l ∷ ls) = ap suc (ends-length _ ls)
+ends-length n (l ∷ ls) = ap suc (ends-length (n + length l) ls)
 
 -- at most one end and one line; or an end for each of several
 pub data Cut (es : List ℕ) (ls : List Line) : Type 0 where

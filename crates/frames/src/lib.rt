@@ -1,4 +1,6 @@
 // A begin that sets a type, or an end, of a feature's number: what it asks for is decided, and done to the table and the ends.
+#![tactic(auto)]
+
 ghost use Rattle.std.specs.Prelude.{◌≡◌, true, cond, ◌<◌, eqb, length};
 ghost use Rattle.std.proofs.lemmas.List.Edits.{sets};
 ghost use Rattle.kinds.specs.Lanes.{endsL};

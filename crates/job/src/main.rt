@@ -1,4 +1,6 @@
 // Runs the job of standard input: writes each feature, reads it back, and prints its map, or why there is none.
+#![tactic(auto)]
+
 ghost use Rattle.std.specs.Prelude.{◌<◌};
 
 use as_words::state::STATE_WORDS;

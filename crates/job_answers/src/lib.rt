@@ -1,4 +1,6 @@
 // What the program says to the library's answer, and what it does next.
+#![tactic(auto)]
+
 use bbox::Box;
 use console::{end_line, say, say_refusal};
 use job_calls::Reply;

@@ -1,4 +1,6 @@
 // What the library is asked to do with the table and the pools, all of them lent, and what it answers.
+#![tactic(auto)]
+
 mod lookup;
 mod reply;
 mod write;

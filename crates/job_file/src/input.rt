@@ -1,9 +1,10 @@
 // Standard input.
-use libc::STDIN_FILENO;
+
+const STDIN: i32 = 0;
 
 // How many bytes there were: fewer than asked for only at the input's end.
 pub fn read(room: &mut [u8]) -> usize {
-    io::read_full(STDIN_FILENO, room)
+    io::read_full(STDIN, room)
 }
 
 // Places are counted from 0.

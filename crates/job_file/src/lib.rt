@@ -1,4 +1,6 @@
 // A job as it stands in the input: its head, its columns and its properties, and what is said of an input that is no job.
+#![tactic(auto)]
+
 mod columns;
 pub mod fault;
 mod head;

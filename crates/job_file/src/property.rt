@@ -3,9 +3,9 @@ use crate::fault;
 use crate::fault::Finding;
 use crate::input::{past, read};
 use event_layout::put_value;
+use event_log::VALUE_BYTES;
 use kinds::column_type;
 use kinds::value::Value;
-use event_log::VALUE_BYTES;
 use numbers::{u32_at, u64_at};
 
 // Before the text: the column, the type, the value's bits, the text's length.

@@ -3,9 +3,9 @@ ghost use Rattle.std.specs.Prelude.{◌≤◌};
 
 use crate::work::{Stage, Work};
 use console::{end_line, say, say_count, say_number, say_record, say_refusal};
+use event_log::EVENT_BYTES;
 use job_file::{fault, read};
 use kinds::{geometry_type, refusal};
-use event_log::EVENT_BYTES;
 use report::KEPT;
 
 // One more than are kept.

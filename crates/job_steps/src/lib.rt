@@ -1,4 +1,6 @@
 // The steps of a job that need neither the table nor a pool: its items are read, its properties given to the writer, and shown when the feature was read back.
+#![tactic(auto)]
+
 mod event;
 mod item;
 mod property;

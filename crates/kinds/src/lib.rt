@@ -1,4 +1,6 @@
 // The numbers of SPEC 2.1 to 2.6, 4.2 and 5.1, and the values that cross the layers of the house.
+#![tactic(auto)]
+
 pub mod answer;
 pub mod column_type;
 pub mod event;

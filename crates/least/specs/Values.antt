@@ -21,6 +21,13 @@ use Rattle.least.specs.Said.{said, rest, kinds, mute}
 pub data Value : Type 0 where
   zV mV tV tmV : Value
 
+-- what holds of each value, by its four cases
+pub by_value : (P : Value → Type 0) → P zV → P mV → P tV → P tmV → (v : Value) → P v
+by_value P z m t tm zV = z
+by_value P z m t tm mV = m
+by_value P z m t tm tV = t
+by_value P z m t tm tmV = tm
+
 abbrev pub lane_in : Lanes → Value → Option (List ℕ)
 lane_in L zV = L.z
 lane_in L mV = L.m
@@ -70,21 +77,21 @@ words-tally F (c ∷ cs) = omega (arith, words-tally F cs)
 
 -- ---- the lists of four at once
 pub of_tails : (L : Lanes) (v : Value) → lane_in (tails L) v ≡ tail_of (lane_in L v)
-of_tails L v = elim v [ zV ↦ refl | mV ↦ refl | tV ↦ refl | tmV ↦ refl ]
+of_tails L = by_value _ refl refl refl refl
 
 count-drop : (n : ℕ) (o : Option (List ℕ)) → count (drop_o n o) ≡ count o - n
 count-drop n none = omega arith
 count-drop n (some l) = length-drop n l
 
 pub count-dropped : (n : ℕ) (L : Lanes) (v : Value) → count (lane_in (dropped n L) v) ≡ count (lane_in L v) - n
-count-dropped n L v = elim v [ zV ↦ count-drop n L.z | mV ↦ count-drop n L.m | tV ↦ count-drop n L.t | tmV ↦ count-drop n L.tm ]
+count-dropped n L = by_value _ (count-drop n L.z) (count-drop n L.m) (count-drop n L.t) (count-drop n L.tm)
 
 seen_most : (b : Bool) (o : Option (List ℕ)) → count (seen b o) ≤ count o
 seen_most true o = omega arith
 seen_most false o = omega arith
 
 pub count-seen : (F : Flags) (r : Rec) (v : Value) → count (lane_in (coords_of F r).lanes v) ≤ count (list_in r v)
-count-seen F r v = elim v [ zV ↦ seen_most F.z r.z | mV ↦ seen_most F.m r.m | tV ↦ seen_most F.t r.t | tmV ↦ seen_most F.tm r.tm ]
+count-seen F r = by_value _ (seen_most F.z r.z) (seen_most F.m r.m) (seen_most F.t r.t) (seen_most F.tm r.tm)
 
 -- ---- the present bits tell the values that are there
 abbrev num : Bool → ℕ
@@ -158,22 +165,12 @@ module _ (L : Lanes) (x y n : ℕ) (K T : Script Event) where
       → pair_s many L x y n K ⨟ T ≡ say (cond many (coord_e p.x p.y (shown F.z p.z) (shown F.m p.m) (shown F.t p.t) (shown F.tm p.tm) n) e) S
       → (v : Value) → there (shown_in F p v) + count (tail_of (lane_in L v)) ≤ count (lane_in L v)
   unfolding coord_e coordinate_e
-  pair-gives F p e S false q h v =
+  pair-gives F p e S false q h =
       let a = neither (F.z || F.m || F.t) F.tm q in
       let b = neither (F.z || F.m) F.t a.0 in
       let c = neither F.z F.m b.0 in
-      elim v [
-        | zV ↦ omega (arith, off F.z p.z c.0, tail_most L.z)
-        | mV ↦ omega (arith, off F.m p.m c.1, tail_most L.m)
-        | tV ↦ omega (arith, off F.t p.t b.1, tail_most L.t)
-        | tmV ↦ omega (arith, off F.tm p.tm a.1, tail_most L.tm)
-      ]
-  pair-gives F p e S true q h v =
+      by_value (λ v. there (shown_in F p v) + count (tail_of (lane_in L v)) ≤ count (lane_in L v)) (omega (arith, off F.z p.z c.0, tail_most L.z)) (omega (arith, off F.m p.m c.1, tail_most L.m)) (omega (arith, off F.t p.t b.1, tail_most L.t)) (omega (arith, off F.tm p.tm a.1, tail_most L.tm))
+  pair-gives F p e S true q h =
       let w = all-taken _ S h in
       let same = same_bits (is w.a) (is w.b) (is w.c) (is w.d) (is (shown F.z p.z)) (is (shown F.m p.m)) (is (shown F.t p.t)) (is (shown F.tm p.tm)) (ap (λ (e : Event). e.present) (said w.says)) in
-      elim v [
-        | zV ↦ omega (arith, same.0, w.z)
-        | mV ↦ omega (arith, same.1, w.m)
-        | tV ↦ omega (arith, same.2, w.t)
-        | tmV ↦ omega (arith, same.3, w.tm)
-      ]
+      by_value (λ v. there (shown_in F p v) + count (tail_of (lane_in L v)) ≤ count (lane_in L v)) (omega (arith, same.0, w.z)) (omega (arith, same.1, w.m)) (omega (arith, same.2, w.t)) (omega (arith, same.3, w.tm))

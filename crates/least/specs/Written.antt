@@ -25,7 +25,7 @@ use Rattle.format.specs.Writes.{ending, parts-root}
 use Rattle.format.specs.Tables.{listed, vals, table_of, rings_table, root_table, all-joined}
 use Rattle.least.specs.Size.{count, numbers, weight, is_part, size_of}
 use Rattle.least.specs.Least.{sum, there, words, of_pairs, ends, of_lines, of_polygons, least_of}
-use Rattle.least.specs.Values.{Value, zV, mV, tV, tmV, flag_in, value_in, tally, words-tally}
+use Rattle.least.specs.Values.{Value, by_value, zV, mV, tV, tmV, flag_in, value_in, tally, words-tally}
 use Rattle.least.specs.Sums.{weights}
 use Rattle.least.specs.Above.{and_off, size_most}
 
@@ -52,7 +52,7 @@ listed-length false none e = refl
 listed-length false (some v) e = absurd (never (sym e))
 
 has_value : (F : Flags) (c : Coord) → Has F c → (v : Value) → is (value_in c v) ≡ flag_in F v
-has_value F c h v = elim v [ zV ↦ h.z | mV ↦ h.m | tV ↦ h.t | tmV ↦ h.tm ]
+has_value F c h = by_value _ h.z h.m h.t h.tm
 
 module _ (F : Flags) where
   values_length : (v : Value) (cs : List Coord) → All (Has F) cs → length (vals (λ c. value_in c v) cs) ≡ tally F v cs

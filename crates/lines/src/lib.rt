@@ -1,4 +1,6 @@
 // The lines of a record: stretches of its pairs from each end to the next, or the whole list as one.
+#![tactic(auto)]
+
 mod lines;
 
 pub use lines::{

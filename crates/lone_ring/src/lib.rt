@@ -1,4 +1,6 @@
 // The polygon of a record that has an xy list and no other, of which no z, m, t or tm is read: the common part.
+#![tactic(auto)]
+
 ghost use Rattle.std.specs.Prelude.{◌≡◌, false, [], ◌≤◌, length};
 ghost use Rattle.laws.specs.Script.{out, run};
 ghost use Rattle.event_log.specs.Log.{events};

@@ -1,4 +1,6 @@
 // Many events in one call.
+#![tactic(auto)]
+
 mod all;
 mod held;
 

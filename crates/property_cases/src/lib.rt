@@ -1,4 +1,6 @@
 // Property bytes, both ways: a case of the list that oracle/lists/property.py makes and lays out is answered with what differs in it.
+#![tactic(auto)]
+
 mod reads;
 mod writes;
 

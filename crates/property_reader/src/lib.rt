@@ -1,4 +1,6 @@
 // Property bytes read: a log record for each value.
+#![tactic(auto)]
+
 mod item;
 
 ghost use Rattle.std.specs.Prelude.{◌≡◌, false};
@@ -7,9 +9,9 @@ ghost use Rattle.event_log.specs.Values.{values};
 ghost use Rattle.property_value.specs.Value.{placed};
 ghost use Rattle.property_reader.specs.Reading.{properties_from, bad_from, reading, bad_in, stopped};
 
+use event_log::say_value;
 use item::{Item, item_at};
 use kinds::refusal;
-use event_log::say_value;
 use property_value::usable_length;
 
 // The answer's number and count of log records; whether the reading stopped after the column that the caller named; and with 6 the place

@@ -1,4 +1,6 @@
 // What the writer and the reader of property bytes share: column types, the values of each, and how many bytes are usable.
+#![tactic(auto)]
+
 mod column;
 mod room;
 mod value;

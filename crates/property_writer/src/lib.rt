@@ -1,4 +1,6 @@
 // A property written after those before it in a buffer.
+#![tactic(auto)]
+
 mod lay;
 
 ghost use Rattle.std.specs.Prelude.{◌≡◌};

@@ -1,4 +1,6 @@
 // The geometry reader: a tree of records, as events in a log.
+#![tactic(auto)]
+
 ghost use Rattle.std.specs.Prelude.{◌≡◌, cond, ◌<◌, eqb};
 ghost use Rattle.laws.specs.Script.{out, run};
 ghost use Rattle.laws.specs.Cut.{Said};

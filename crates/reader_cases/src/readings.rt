@@ -1,7 +1,7 @@
 // A tree's readings, each into a log of its own length.
 use crate::{described, tree};
-use kinds::answer::Answer;
 use event_log::EVENT_BYTES;
+use kinds::answer::Answer;
 use replay::{Tally, bytes_from, difference, number, tally, unless};
 
 // Where the events of a tree are described, and where its readings stand.

@@ -1,4 +1,6 @@
 // A geometry's box, by record number: its own pairs and then each part's, in order, to the last level.
+#![tactic(auto)]
+
 ghost use Rattle.std.specs.Prelude.{◌≡◌, ◌-◌, ◌<◌, length};
 ghost use Rattle.store.specs.RecordLaws.{InPool};
 ghost use Rattle.store.specs.Lists.{pools_of, record_with};

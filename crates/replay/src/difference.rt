@@ -1,5 +1,6 @@
 // What can differ in a case, a bit for each, so that all that differs is named.
-use libc::STDOUT_FILENO;
+
+const STDOUT: i32 = 1;
 
 pub const NONE: u8 = 0;
 
@@ -24,7 +25,7 @@ pub fn unless(holds: bool, what: u8) -> u8 {
 
 fn print_one(differs: u8, what: u8, name: &[u8]) {
     if differs & what != 0 {
-        io::write_all(STDOUT_FILENO, name);
+        io::write_all(STDOUT, name);
     }
 }
 

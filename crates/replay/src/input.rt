@@ -4,6 +4,8 @@ use crate::tally::Tally;
 use crate::{difference, tally};
 use numbers::u32_at;
 
+const STDIN: i32 = 0;
+
 #[derive(Clone, Copy)]
 enum Frame {
     Length(usize),
@@ -21,7 +23,7 @@ pub enum Next {
 
 fn read_length() -> Frame {
     let mut head = [0u8; 4];
-    let got = io::read_full(libc::STDIN_FILENO, &mut head);
+    let got = io::read_full(STDIN, &mut head);
     if got == 0 {
         return Frame::End;
     }
@@ -37,7 +39,7 @@ fn read_packed(room: &mut [u8], length: usize) -> Frame {
         return Frame::Cut;
     }
     let from = room.len() - length;
-    if io::read_full(libc::STDIN_FILENO, &mut room[from..]) < length {
+    if io::read_full(STDIN, &mut room[from..]) < length {
         return Frame::Cut;
     }
     Frame::Length(unpack(room, from))

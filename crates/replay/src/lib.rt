@@ -1,4 +1,6 @@
 // Fixed lists of cases, run from standard input: a program answers each case, and what differs is named and counted.
+#![tactic(auto)]
+
 mod case;
 pub mod difference;
 mod input;

@@ -2,7 +2,8 @@
 ghost use Rattle.std.specs.Prelude.{◌<◌};
 
 use crate::difference;
-use libc::STDOUT_FILENO;
+
+const STDOUT: i32 = 1;
 
 pub const SORTS: usize = 11;
 
@@ -35,11 +36,11 @@ fn place(sort: usize) -> usize
 }
 
 fn print_case(case: u64, differs: u8) {
-    io::write_all(STDOUT_FILENO, b"case ");
-    io::print_decimal(STDOUT_FILENO, case);
-    io::write_all(STDOUT_FILENO, b" differs:");
+    io::write_all(STDOUT, b"case ");
+    io::print_decimal(STDOUT, case);
+    io::write_all(STDOUT, b" differs:");
     difference::print(differs);
-    io::write_all(STDOUT_FILENO, b"\n");
+    io::write_all(STDOUT, b"\n");
 }
 
 // How many differ, with one that has these differences.
@@ -63,15 +64,15 @@ pub fn count(tally: &mut Tally, sort: usize, differs: u8) {
 }
 
 pub fn print_sort(tally: &Tally, sort: usize, name: &[u8]) {
-    io::write_all(STDOUT_FILENO, name);
-    io::write_all(STDOUT_FILENO, b" ");
-    io::print_decimal(STDOUT_FILENO, tally[place(sort)]);
-    io::write_all(STDOUT_FILENO, b"\n");
+    io::write_all(STDOUT, name);
+    io::write_all(STDOUT, b" ");
+    io::print_decimal(STDOUT, tally[place(sort)]);
+    io::write_all(STDOUT, b"\n");
 }
 
 pub fn print_total(tally: &Tally) {
-    io::print_decimal(STDOUT_FILENO, tally[CASES]);
-    io::write_all(STDOUT_FILENO, b" cases, ");
-    io::print_decimal(STDOUT_FILENO, tally[DIFFER]);
-    io::write_all(STDOUT_FILENO, b" differ\n");
+    io::print_decimal(STDOUT, tally[CASES]);
+    io::write_all(STDOUT, b" cases, ");
+    io::print_decimal(STDOUT, tally[DIFFER]);
+    io::write_all(STDOUT, b" differ\n");
 }

@@ -1,4 +1,6 @@
 // A finished feature, read back, judged and shown.
+#![tactic(auto)]
+
 mod bad_text;
 mod boxes;
 mod feature;

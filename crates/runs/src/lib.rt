@@ -1,4 +1,6 @@
 // Plain events, one behind the other or one by itself: pairs, coordinates, and begins that set no type.
+#![tactic(auto)]
+
 mod alone;
 mod blocked;
 mod run;

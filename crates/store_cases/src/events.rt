@@ -1,8 +1,8 @@
 // Events heard, and said to a log.
+use event_log::EVENT_BYTES;
 use kinds::answer::Answer;
 use kinds::event::{Event, Heard};
 use kinds::refusal;
-use event_log::EVENT_BYTES;
 use replay::{bytes_from, difference, first, number, past, unless, word};
 
 // Where the parts of a case stand.

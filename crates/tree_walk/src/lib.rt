@@ -1,4 +1,6 @@
 // A walk through a tree of records that fills no log: what it needs of a record, and what it remembers of where it has been.
+#![tactic(auto)]
+
 ghost use Rattle.std.specs.Prelude.{◌≡◌, ◌<◌};
 ghost use Rattle.tree_walk.specs.Memory.{skips};
 ghost use Rattle.store.specs.Lists.{parts_of};

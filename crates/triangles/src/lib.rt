@@ -1,4 +1,6 @@
 // The triangles of a record: one for each of its lines.
+#![tactic(auto)]
+
 ghost use Rattle.std.specs.Prelude.{◌≡◌, ◌≤◌, length};
 ghost use Rattle.laws.specs.Script.{out, run};
 ghost use Rattle.event_log.specs.Log.{events};

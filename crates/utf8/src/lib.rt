@@ -1,4 +1,6 @@
 // UTF-8 as RFC 3629 has it.
+#![tactic(auto)]
+
 ghost use Rattle.std.specs.Prelude.{◌≡◌, ◌≤◌, ◌<◌, ◌+◌, length, drop};
 ghost use Rattle.utf8.specs.Utf8.{◌‥◌, has, tail, tails, second, row_of, begins, char_length, BadIs};
 

@@ -1,4 +1,6 @@
 // What is decided of a record before it is read.
+#![tactic(auto)]
+
 mod lone;
 mod walk;
 

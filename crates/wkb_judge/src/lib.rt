@@ -1,4 +1,6 @@
 // Whether a list of events is a geometry's, at whatever depth.
+#![tactic(auto)]
+
 mod judge;
 mod pairs;
 

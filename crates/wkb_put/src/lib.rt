@@ -1,4 +1,6 @@
 // Events that were judged good, laid down as well-known binary.
+#![tactic(auto)]
+
 mod put;
 
 pub use put::put_all;

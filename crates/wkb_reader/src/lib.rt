@@ -1,4 +1,6 @@
 // Well-known binary, as events in a log.
+#![tactic(auto)]
+
 mod geometry;
 mod head;
 mod lines;

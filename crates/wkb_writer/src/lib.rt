@@ -1,4 +1,6 @@
 // A list of events, as well-known binary.
+#![tactic(auto)]
+
 mod write;
 
 pub use write::{Wrote, write_wkb};

@@ -1,1 +1,2 @@
 // What is written of a list of events: definitions, and the laws that tie them to a geometry.
+#![tactic(auto)]

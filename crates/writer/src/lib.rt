@@ -1,4 +1,6 @@
 // The geometry writer: events to tree, over the store.
+#![tactic(auto)]
+
 mod properties;
 
 ghost use Rattle.std.specs.Prelude.{◌≡◌, List, ℕ};

@@ -1,5 +1,7 @@
 // Runs the writer, by the exported calls, on the rows of calls of standard input, which oracle/lists/writer.py makes and lays out, and
 // counts what differs.
+#![tactic(auto)]
+
 mod blank;
 
 use as_words::state::{STATE_WORDS, StateWords};

@@ -5,8 +5,6 @@ use Rattle.bbox.specs.Box.{bits_of}
 use Rattle.bbox.specs.Doubles.{self_number, self_nan}
 use Rattle.bbox.proofs.edge_bits.Goals as goal
 
-
-
 pub float_to_bits-result : goal.float_to_bits-result
 float_to_bits-result c = self_number _ c.if-edge.true
 

@@ -3,7 +3,5 @@ use lib.Ieee.{binary64}
 use lib.Ieee.Bits.{nan_bits_above}
 use Rattle.bbox.proofs.is_nan.Goals as goal
 
-
-
 pub returns : goal.returns
 returns c = sym (nan_bits_above binary64 c.args.word)

@@ -2,8 +2,6 @@ use mathlib.Core.Path.{refl}
 use Rattle.laws.specs.Cond.{if_so, if_not}
 use Rattle.bbox.proofs.lowered.Goals as goal
 
-
-
 pub returns-then-value-edge : goal.returns-then-value-edge
 returns-then-value-edge c = if_so _ c.if-value-edge.true refl
 

@@ -5,8 +5,6 @@ use Rattle.laws.specs.Cond.{if_so, if_not}
 use Rattle.writing.specs.Calls.{table_after}
 use Rattle.pools.proofs.finish_part.Goals as goal
 
-
-
 pub put_record-requires : goal.put_record-requires
 put_record-requires c = omega (arith, c.requires.room c.if-a.true)
 

@@ -2,8 +2,6 @@ use native.Mathlib.Omega.{arith}
 use borrow.Author.Rules.{rules}
 use Rattle.pools.proofs.push_end.Goals as goal
 
-
-
 pub bounds-pool-at : goal.bounds-pool-at
 bounds-pool-at c = omega (arith, c.used-at.ensures.is, rw c.if-on.true at c.requires)
 

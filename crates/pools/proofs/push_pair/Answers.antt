@@ -5,8 +5,6 @@ use Rattle.laws.specs.Runs.{two}
 use Rattle.pending.specs.Words.{used as spec-used}
 use Rattle.pools.proofs.push_pair.Goals as goal
 
-
-
 pub bounds-pool-at : goal.bounds-pool-at
 bounds-pool-at c = omega (arith, c.used-at.ensures.is, rw c.if-on.true at c.requires)
 

@@ -2,7 +2,5 @@ use mathlib.Core.Path.{◌∙◌}
 use borrow.Author.Rules.{rules}
 use Rattle.pools.proofs.put_root.Goals as goal
 
-
-
 pub returns : goal.returns
 returns c = c.put_record.ensures ∙ rw c.root_of.ensures

@@ -9,8 +9,6 @@ use Rattle.property_reader.specs.Reading.{on_bytes, says, stopped}
 use Rattle.property_reader.specs.ReadingSteps.{usable_part}
 use Rattle.property_reader.proofs.read_properties.Goals as goal
 
-
-
 pub returns-then-not-has_columns : goal.returns-then-not-has_columns
 returns-then-not-has_columns c =
     unfold on_bytes run says stopped placed in

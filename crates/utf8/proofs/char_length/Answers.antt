@@ -8,8 +8,6 @@ use borrow.Author.Tests.{not-true, not-false}
 use Rattle.utf8.specs.Laws.{length_most, char_brief, char_cut, char_long}
 use Rattle.utf8.proofs.char_length.Goals as goal
 
-
-
 pub returns-then-len-lt2 : goal.returns-then-len-lt2
 returns-then-len-lt2 c =
     let start = c.args in

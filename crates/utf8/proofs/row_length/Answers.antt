@@ -4,8 +4,6 @@ use Rattle.utf8.specs.Utf8.{row_of}
 use Rattle.utf8.specs.Laws.{length_in}
 use Rattle.utf8.proofs.row_length.Goals as goal
 
-
-
 pub returns-then-lead-lt128 : goal.returns-then-lead-lt128
 returns-then-lead-lt128 c = unfold row_of in length_in 0x00 0x80 1 c.args.lead refl (search rules) (search rules)
 

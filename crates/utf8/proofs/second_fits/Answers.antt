@@ -4,8 +4,6 @@ use Rattle.utf8.specs.Utf8.{row_of, second}
 use Rattle.utf8.specs.Laws.{second-wide}
 use Rattle.utf8.proofs.second_fits.Goals as goal
 
-
-
 pub returns-in-224 : goal.returns-in-224
 returns-in-224 c = unfold row_of second in rw c.in-224.is c.in_range.ensures
 

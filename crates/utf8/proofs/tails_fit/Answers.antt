@@ -10,8 +10,6 @@ use Rattle.utf8.specs.Utf8.{begins}
 use Rattle.utf8.specs.Laws.{tails-first}
 use Rattle.utf8.proofs.tails_fit.Goals as goal
 
-
-
 pub returns-then-count-eq0 : goal.returns-then-count-eq0
 returns-then-count-eq0 c = unfold begins in rw c.if-count-eq0.true
 

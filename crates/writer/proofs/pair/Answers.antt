@@ -4,8 +4,6 @@ use Rattle.writing.specs.Calls.{is_ready}
 use Rattle.runs.specs.Run.{pair-alone}
 use Rattle.writer.proofs.pair.Goals as goal
 
-
-
 pub returns : goal.returns
 returns c =
     λ bytes number heard.

@@ -3,8 +3,6 @@ use mathlib.Core.Path.{refl}
 use borrow.Author.Rules.{rules}
 use Rattle.as_words.proofs.state.keep.Goals as goal
 
-
-
 pub returns-then-wrote-eq-DONE : goal.returns-then-wrote-eq-DONE
 returns-then-wrote-eq-DONE c = record { value = refl; words_after = done-words _ _ c.if-wrote-eq-DONE.true c.words_of-after.ensures }
 

@@ -3,8 +3,6 @@ use mathlib.Core.Path.{refl}
 use borrow.Author.Rules.{rules}
 use Rattle.as_words.proofs.state.keep_all.Goals as goal
 
-
-
 pub returns-then-took-ne0 : goal.returns-then-took-ne0
 returns-then-took-ne0 c = record { value = refl; count_after = refl; words_after = taken-words _ _ c.if-took-ne0.true c.words_of-after.ensures }
 

@@ -3,7 +3,5 @@ use Rattle.as_words.specs.Words.{pending_of}
 use borrow.Author.Rules.{rules}
 use Rattle.as_words.proofs.state.pending_of.Goals as goal
 
-
-
 pub returns : goal.returns
 returns c = unfold pending_of in refl

@@ -7,8 +7,6 @@ use Rattle.laws.specs.Cond.{if_so, if_not}
 use Rattle.asking.specs.Ask.{ask_of}
 use Rattle.asking.proofs.ask.ask_of.Goals as goal
 
-
-
 pub returns-then-kind-lt-END : goal.returns-then-kind-lt-END
 returns-then-kind-lt-END c = unfold ask_of in if_so _ (lt-ltb _ _ c.if-kind-lt-END.true) c.begin.ensures
 

@@ -7,8 +7,6 @@ use Rattle.asking.specs.Ask.{in_collection, begun as spec-begun}
 use Rattle.asking.specs.SetType.{set_type}
 use Rattle.asking.proofs.ask.begun.Goals as goal
 
-
-
 pub returns-then-is_quiet : goal.returns-then-is_quiet
 returns-then-is_quiet c = unfold spec-begun in if_so _ (sym c.is_quiet.ensures ∙ c.if-is_quiet.true) refl
 

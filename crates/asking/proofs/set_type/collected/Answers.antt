@@ -3,8 +3,6 @@ use borrow.Author.Rules.{rules}
 use Rattle.asking.specs.SetType.{collected as spec-collected}
 use Rattle.asking.proofs.set_type.collected.Goals as goal
 
-
-
 pub returns-then-typing-eq-GEOMETRY_COLLECTION : goal.returns-then-typing-eq-GEOMETRY_COLLECTION
 returns-then-typing-eq-GEOMETRY_COLLECTION c = unfold spec-collected in simp (eq-eqb _ _ c.if-typing-eq-GEOMETRY_COLLECTION.true) c.with_current.ensures
 

@@ -3,8 +3,6 @@ use borrow.Author.Rules.{rules}
 use Rattle.laws.specs.Cond.{if_so, if_not}
 use Rattle.asking.proofs.set_type.detected.Goals as goal
 
-
-
 pub returns-then-typing-kind : goal.returns-then-typing-kind
 returns-then-typing-kind c = if_so _ c.if-typing-kind.true c.with_declared.ensures
 

@@ -2,8 +2,6 @@ use borrow.Author.Rules.{rules}
 use Rattle.laws.specs.Cond.{if_so, if_not}
 use Rattle.asking.proofs.set_type.detected_or.Goals as goal
 
-
-
 pub returns-then-typing : goal.returns-then-typing
 returns-then-typing c = if_so _ c.if-typing.true c.detected.ensures
 

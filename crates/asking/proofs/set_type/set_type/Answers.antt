@@ -6,8 +6,6 @@ use Rattle.asking.specs.declared.set_type.Typed.TheVariants.{Set}
 use Rattle.asking.specs.SetType.{set_type}
 use Rattle.asking.proofs.set_type.set_type.Goals as goal
 
-
-
 pub returns-then-kind-typing : goal.returns-then-kind-typing
 returns-then-kind-typing c = unfold set_type in if_so _ (eq-eqb _ _ c.if-kind-typing.true) refl
 

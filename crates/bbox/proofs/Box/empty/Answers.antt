@@ -3,8 +3,6 @@ use lib.Ieee.{of_bits, nan_bits}
 use Rattle.bbox.specs.Box.{beginning}
 use Rattle.bbox.proofs.Box.empty.Goals as goal
 
-
-
 pub float_from_bits-plus_infinity : goal.float_from_bits-plus_infinity
 float_from_bits-plus_infinity c = unfold nan_bits in tt
 

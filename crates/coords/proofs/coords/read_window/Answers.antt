@@ -3,8 +3,6 @@ use Rattle.event_log.specs.Log.{events}
 use borrow.Author.Rules.{rules}
 use Rattle.coords.proofs.coords.read_window.Goals as goal
 
-
-
 pub returns-then-b-ne-DONE : goal.returns-then-b-ne-DONE
 returns-then-b-ne-DONE c = let a = c.args in no_begin (events a.feature) _ _ _ _ c.begin.ensures c.say-b.ensures c.if-b-ne-DONE.true
 

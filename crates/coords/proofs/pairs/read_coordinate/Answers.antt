@@ -2,8 +2,6 @@ use Rattle.coords.specs.PairLaws.{some-past, all_there}
 use borrow.Author.Rules.{rules}
 use Rattle.coords.proofs.pairs.read_coordinate.Goals as goal
 
-
-
 pub returns-then-past : goal.returns-then-past
 returns-then-past c = let a = c.args in some-past a.z a.m a.t a.tm a.x a.y a.idx c.past.ensures c.past-2.ensures c.past-3.ensures c.past-4.ensures c.if-past.true
 

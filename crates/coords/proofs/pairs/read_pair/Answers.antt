@@ -2,8 +2,6 @@ use Rattle.coords.specs.PairLaws.{pair-plain, pair_many}
 use borrow.Author.Rules.{rules}
 use Rattle.coords.proofs.pairs.read_pair.Goals as goal
 
-
-
 pub returns-then-not-seen : goal.returns-then-not-seen
 returns-then-not-seen c = let a = c.args in pair-plain _ a.x a.y a.idx a.seen.many c.if-not-seen.true c.xy.ensures
 

@@ -4,8 +4,6 @@ use Rattle.coords.specs.PairLaws.{value_absent, value_there, value_past}
 use borrow.Author.Rules.{rules}
 use Rattle.coords.proofs.pairs.value_at.Goals as goal
 
-
-
 pub returns-then-not-there : goal.returns-then-not-there
 returns-then-not-there c = let a = c.args in value_absent a.list.now a.n a.there (ap not c.if-not-there.true)
 

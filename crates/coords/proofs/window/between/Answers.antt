@@ -4,8 +4,6 @@ use Rattle.coords.specs.CoordLaws.{windowed_absent, windowed_in, windowed_cut, w
 use borrow.Author.Rules.{rules}
 use Rattle.coords.proofs.window.between.Goals as goal
 
-
-
 pub returns-then-not-there : goal.returns-then-not-there
 returns-then-not-there c = windowed_absent _ _ _ _ (ap not c.if-not-there.true)
 

@@ -4,8 +4,6 @@ use borrow.Author.Rules.{rules}
 use Rattle.event_layout.specs.Event.{event_of}
 use Rattle.event_layout.proofs.event.event_of.Goals as goal
 
-
-
 pub returns : goal.returns
 returns c =
     let l = c.args.bytes.now in

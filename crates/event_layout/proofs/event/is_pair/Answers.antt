@@ -3,8 +3,6 @@ use borrow.Author.Rules.{rules}
 use Rattle.event_layout.specs.EventLaws.{own_pair}
 use Rattle.event_layout.proofs.event.is_pair.Goals as goal
 
-
-
 pub returns : goal.returns
 returns c =
     λ h.

@@ -5,8 +5,6 @@ use Rattle.laws.specs.Bytes.{le}
 use Rattle.laws.specs.Runs.{then}
 use Rattle.event_layout.proofs.event.put_doubles.Goals as goal
 
-
-
 pub returns : goal.returns
 returns c =
     let a = c.args in

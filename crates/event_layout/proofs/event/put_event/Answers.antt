@@ -7,8 +7,6 @@ use Rattle.event_layout.specs.Event.{bit, double_bytes, event_bytes}
 use Rattle.event_layout.specs.Head.{head_bytes}
 use Rattle.event_layout.proofs.event.put_event.Goals as goal
 
-
-
 pub returns : goal.returns
 returns c =
     unfold event_bytes in let l = c.args.bytes.now in

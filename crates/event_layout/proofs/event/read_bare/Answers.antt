@@ -5,8 +5,6 @@ use Rattle.kinds.specs.EventLaws.{told-pair}
 use Rattle.event_layout.specs.EventLaws.{whole_read}
 use Rattle.event_layout.proofs.event.read_bare.Goals as goal
 
-
-
 pub returns-then-spare_zero-keeps : goal.returns-then-spare_zero-keeps
 returns-then-spare_zero-keeps c =
     let kind = c.if-e-ne-XY.false in

@@ -5,8 +5,6 @@ use borrow.Author.Rules.{rules}
 use Rattle.event_layout.specs.Head.{two-words}
 use Rattle.event_layout.proofs.head.put_two.Goals as goal
 
-
-
 pub returns : goal.returns
 returns c =
     let a = c.args in

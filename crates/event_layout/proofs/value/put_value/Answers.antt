@@ -8,8 +8,6 @@ use Rattle.laws.specs.Runs.{then, sets_whole}
 use Rattle.event_layout.specs.Value.{value_bytes}
 use Rattle.event_layout.proofs.value.put_value.Goals as goal
 
-
-
 pub returns : goal.returns
 returns c =
     unfold value_bytes in let a = c.args in

@@ -3,8 +3,6 @@ use borrow.Author.Rules.{rules}
 use Rattle.event_log.specs.LogLaws.{heard-event}
 use Rattle.event_log.proofs.events.event_in.Goals as goal
 
-
-
 pub returns : goal.returns
 returns c =
     λ e h.

@@ -2,7 +2,5 @@ use borrow.Author.Rules.{rules}
 use Rattle.event_log.specs.Log.{heard}
 use Rattle.event_log.proofs.events.hear.Goals as goal
 
-
-
 pub returns : goal.returns
 returns c = unfold heard in c.read_event.ensures

@@ -3,8 +3,6 @@ use borrow.Author.Tests.{eq-eqb, ne_eqb}
 use Rattle.laws.specs.Cond.{if_so, if_not}
 use Rattle.event_log.proofs.events.rest_number.Goals as goal
 
-
-
 pub returns-then-length-eq0 : goal.returns-then-length-eq0
 returns-then-length-eq0 c = if_so _ (eq-eqb _ 0 c.if-length-eq0.true) refl
 

@@ -10,8 +10,6 @@ use Rattle.event_log.specs.Log.{events}
 use Rattle.event_log.specs.Saying.{said_in_part}
 use Rattle.event_log.proofs.events.say.Goals as goal
 
-
-
 pub returns-then-not-has_room : goal.returns-then-not-has_room
 returns-then-not-has_room c =
     unfold events in let a = c.args in

@@ -10,8 +10,6 @@ use Rattle.event_log.specs.Values.{values}
 use Rattle.event_log.specs.Saying.{said_in_part}
 use Rattle.event_log.proofs.values.say_value.Goals as goal
 
-
-
 pub returns-then-not-has_room : goal.returns-then-not-has_room
 returns-then-not-has_room c =
     unfold values in let a = c.args in

@@ -5,8 +5,6 @@ use borrow.Author.Rules.{rules}
 use Rattle.geometry_layout.specs.Lone.{is_lone}
 use Rattle.geometry_layout.proofs.geometry.is_lone.Goals as goal
 
-
-
 pub returns : goal.returns
 returns c =
     let l = c.args.bytes.now in

@@ -2,8 +2,6 @@ use borrow.Author.Rules.{rules}
 use Rattle.geometry_layout.specs.Lone.{lone_in}
 use Rattle.geometry_layout.proofs.geometry.lone_list.Goals as goal
 
-
-
 pub returns-then-is_lone : goal.returns-then-is_lone
 returns-then-is_lone c = unfold lone_in in rw (← c.is_lone.ensures, c.if-is_lone.true, c.u32_at-start.ensures, c.u32_at-count.ensures)
 

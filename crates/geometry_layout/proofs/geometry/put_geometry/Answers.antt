@@ -6,8 +6,6 @@ use Rattle.laws.specs.Runs.{then, sets_whole}
 use Rattle.geometry_layout.specs.Geometry.{head_bytes, present_of, span_bytes, geometry_bytes}
 use Rattle.geometry_layout.proofs.geometry.put_geometry.Goals as goal
 
-
-
 pub returns : goal.returns
 returns c =
     unfold geometry_bytes in let a = c.args in

@@ -3,8 +3,6 @@ use lib.ListN.{length-set}
 use borrow.Author.Rules.{rules}
 use Rattle.geometry_layout.proofs.geometry.put_head.Goals as goal
 
-
-
 pub bounds-s-1 : goal.bounds-s-1
 bounds-s-1 c = simp length-set (omega arith)
 

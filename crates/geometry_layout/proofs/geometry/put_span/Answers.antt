@@ -5,8 +5,6 @@ use Rattle.laws.specs.Bytes.{le}
 use Rattle.laws.specs.Runs.{then}
 use Rattle.geometry_layout.proofs.geometry.put_span.Goals as goal
 
-
-
 pub returns : goal.returns
 returns c =
     let a = c.args in

@@ -3,8 +3,6 @@ use borrow.Author.Rules.{rules}
 use Rattle.geometry_layout.specs.Geometry.{read_geometry}
 use Rattle.geometry_layout.proofs.geometry.read_geometry.Goals as goal
 
-
-
 pub returns-then-bytes-ne64 : goal.returns-then-bytes-ne64
 returns-then-bytes-ne64 c = unfold read_geometry in rw (ne_eqb _ _ c.if-bytes-ne64.true)
 

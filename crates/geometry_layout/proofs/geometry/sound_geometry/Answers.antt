@@ -5,8 +5,6 @@ use borrow.Author.Rules.{rules}
 use Rattle.geometry_layout.specs.Geometry.{sound_geometry}
 use Rattle.geometry_layout.proofs.geometry.sound_geometry.Goals as goal
 
-
-
 pub returns : goal.returns
 returns c =
     let l = c.args.bytes.now in

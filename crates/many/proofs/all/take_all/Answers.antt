@@ -273,7 +273,7 @@ returns-then-wrote-ne-DONE c =
     let wrote = c.take_other-wrote in
     let k' = mem_of wrote.new.table v.xy wrote.new.ends v.z v.m v.t v.tm in
     let is : outcome wrote.result k' ≡ event_call s k (record_of c.args.bytes.now run.result.taken) =
-        other_call s c.args.held c.is_ready-ready.result c.in-Other.e at.table v.xy at.ends v.z v.m v.t v.tm so_far.tells _ told.1 told.2 told.3 wrote.ensures.answer wrote.ensures.records wrote.ensures.words in
+    other_call s c.args.held c.is_ready-ready.result c.in-Other.e at.table v.xy at.ends v.z v.m v.t v.tm so_far.tells _ told.1 told.2 told.3 wrote.ensures.answer wrote.ensures.records wrote.ensures.words in
     at_refused so_far (omega (arith, told.0)) is c.if-wrote-ne-DONE.true
 
 pub overflow_add-taken : goal.overflow_add-taken
@@ -311,8 +311,7 @@ loop-own-preserved c =
     let wrote = c.take_other-wrote in
     let k' = mem_of wrote.new.table v.xy wrote.new.ends v.z v.m v.t v.tm in
     let is : outcome wrote.result k' ≡ event_call s k (record_of c.args.bytes.now run.result.taken) =
-        other_call s c.args.held c.is_ready-ready.result c.in-Other.e at.table v.xy at.ends v.z v.m v.t v.tm so_far.tells _ told.1 told.2 told.3 wrote.ensures.answer wrote.ensures.records wrote.ensures.words in
+    other_call s c.args.held c.is_ready-ready.result c.in-Other.e at.table v.xy at.ends v.z v.m v.t v.tm so_far.tells _ told.1 told.2 told.3 wrote.ensures.answer wrote.ensures.records wrote.ensures.words in
     at-taken so_far (omega (arith, told.0)) is c.if-wrote-ne-DONE.false (omega (arith, told.0)) wrote.auto.table
     (λ i. record { xy = length v.xy; ends = wrote.auto.ends i; z = length v.z; m = length v.m; t = length v.t; tm = length v.tm })
     (ap (λ (w : Wrote). w.state.feature) wrote.ensures.answer ∙ other-held _ _ _ _ _ _ (ap (λ (w : Wrote). w.number) (sym wrote.ensures.answer) ∙ c.if-wrote-ne-DONE.false))
-

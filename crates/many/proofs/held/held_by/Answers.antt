@@ -6,8 +6,6 @@ use Rattle.writing.specs.declared.feature.Feature.{Feature}
 use Rattle.many.specs.Held.{held_by}
 use Rattle.many.proofs.held.held_by.Goals as goal
 
-
-
 pub returns-then-bytes-lt64 : goal.returns-then-bytes-lt64
 returns-then-bytes-lt64 c = if_so _ (lt-ltb _ _ c.if-bytes-lt64.true) refl ∙ ap (λ (f : Feature). held_by f c.args.bytes.now) (sym c.in-Open.is)
 

@@ -4,8 +4,6 @@ use borrow.Author.Rules.{rules}
 use Rattle.laws.specs.Runs.{two}
 use Rattle.numbers.proofs.little_endian.put_u16.Goals as goal
 
-
-
 pub bounds-s-at-2 : goal.bounds-s-at-2
 bounds-s-at-2 c = simp length-set (omega arith)
 

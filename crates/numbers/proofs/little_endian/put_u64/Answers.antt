@@ -7,8 +7,6 @@ use Rattle.laws.specs.Runs.{then}
 use Rattle.laws.specs.Bytes.{le, halves}
 use Rattle.numbers.proofs.little_endian.put_u64.Goals as goal
 
-
-
 pub returns : goal.returns
 returns c =
     let a = c.args in

@@ -3,8 +3,6 @@ use borrow.Author.Rules.{rules}
 use Rattle.laws.specs.Bytes.{two_at}
 use Rattle.numbers.proofs.little_endian.u16_at.Goals as goal
 
-
-
 pub returns : goal.returns
 returns c =
     let a = c.args in

@@ -3,8 +3,6 @@ use borrow.Author.Rules.{rules}
 use Rattle.laws.specs.Bytes.{four-at}
 use Rattle.numbers.proofs.little_endian.u32_at.Goals as goal
 
-
-
 pub returns : goal.returns
 returns c =
     let a = c.args in

@@ -3,8 +3,6 @@ use Rattle.kinds.specs.Lanes.{xyL, endsL, zL, mL, tL, tmL}
 use Rattle.pending.specs.Growth.{grown_all}
 use Rattle.pending.proofs.growth.grown_all.Goals as goal
 
-
-
 pub grown-xy-requires : goal.grown-xy-requires
 grown-xy-requires c = record { fits = omega (arith, c.requires xyL); few = omega arith }
 

@@ -1,8 +1,6 @@
 use native.Mathlib.Omega.{arith}
 use Rattle.pending.proofs.growth.grown_values.Goals as goal
 
-
-
 pub grown-xy-requires : goal.grown-xy-requires
 grown-xy-requires c = record { fits = omega (arith, c.requires.xy); few = omega arith }
 

@@ -3,8 +3,6 @@ use Rattle.kinds.specs.Lanes.{xyL, endsL, zL, mL, tL, tmL}
 use Rattle.pending.specs.Growth.{past_all}
 use Rattle.pending.proofs.growth.past_all.Goals as goal
 
-
-
 pub past-xy-requires : goal.past-xy-requires
 past-xy-requires c = omega (arith, c.requires xyL)
 

@@ -4,8 +4,6 @@ use borrow.Author.Rules.{rules}
 use Rattle.laws.specs.Cond.{if_so, if_not}
 use Rattle.pending.proofs.part.shown.Goals as goal
 
-
-
 pub returns-then-p-omitted : goal.returns-then-p-omitted
 returns-then-p-omitted c = if_so _ (le-leb _ _ c.if-p-omitted.true) refl
 

@@ -7,8 +7,6 @@ use Rattle.property_value.specs.Value.{Checked}
 use Rattle.property_reader.specs.Reading.{bytes_at}
 use Rattle.property_reader.proofs.item.bytes_at.Goals as goal
 
-
-
 pub returns-then-bytes-start : goal.returns-then-bytes-start
 returns-then-bytes-start c = unfold bytes_at in rw (lt-ltb _ _ c.if-bytes-start.true)
 

@@ -3,8 +3,6 @@ use borrow.Author.Rules.{rules}
 use Rattle.property_reader.specs.Reading.{item_at}
 use Rattle.property_reader.proofs.item.item_at.Goals as goal
 
-
-
 pub returns-then-bytes-at-lt2 : goal.returns-then-bytes-at-lt2
 returns-then-bytes-at-lt2 c = unfold item_at in rw (lt-ltb _ _ c.if-bytes-at-lt2.true)
 

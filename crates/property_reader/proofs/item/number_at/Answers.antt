@@ -5,8 +5,6 @@ use Rattle.property_value.specs.ColumnLaws.{width_most, number_width}
 use Rattle.property_reader.specs.Reading.{number_at}
 use Rattle.property_reader.proofs.item.number_at.Goals as goal
 
-
-
 pub returns-then-bytes-at : goal.returns-then-bytes-at
 returns-then-bytes-at c = unfold number_at in rw (← c.width-len.ensures, lt-ltb _ _ c.if-bytes-at.true)
 

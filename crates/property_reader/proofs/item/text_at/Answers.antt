@@ -3,8 +3,6 @@ use borrow.Author.Rules.{rules}
 use Rattle.property_reader.specs.Reading.{text_at}
 use Rattle.property_reader.proofs.item.text_at.Goals as goal
 
-
-
 pub returns-then-bytes-at-lt4 : goal.returns-then-bytes-at-lt4
 returns-then-bytes-at-lt4 c = unfold text_at in rw (lt-ltb _ _ c.if-bytes-at-lt4.true)
 

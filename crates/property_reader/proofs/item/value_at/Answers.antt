@@ -3,8 +3,6 @@ use borrow.Author.Rules.{rules}
 use Rattle.property_reader.specs.Reading.{value_at}
 use Rattle.property_reader.proofs.item.value_at.Goals as goal
 
-
-
 pub returns-then-kind-gt-BINARY : goal.returns-then-kind-gt-BINARY
 returns-then-kind-gt-BINARY c = unfold value_at in rw (lt-ltb _ _ c.if-kind-gt-BINARY.true)
 

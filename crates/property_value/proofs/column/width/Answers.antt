@@ -4,8 +4,6 @@ use Rattle.property_value.specs.Column.{width_of}
 use Rattle.property_value.specs.ColumnLaws.{width_in}
 use Rattle.property_value.proofs.column.width.Goals as goal
 
-
-
 pub returns-in-9 : goal.returns-in-9
 returns-in-9 c = unfold width_of in rw c.in-9.is
 

@@ -4,8 +4,6 @@ use Rattle.property_value.specs.Value.{text_ok}
 use Rattle.property_value.specs.ValueLaws.{checked}
 use Rattle.property_value.proofs.value.bad_text.Goals as goal
 
-
-
 pub returns-then-is_text : goal.returns-then-is_text
 returns-then-is_text c =
     let a = c.args in

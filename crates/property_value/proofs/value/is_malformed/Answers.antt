@@ -9,8 +9,6 @@ use Rattle.property_value.specs.Value.{malformed}
 use Rattle.property_value.specs.ValueLaws.{bool_above, beyond_width}
 use Rattle.property_value.proofs.value.is_malformed.Goals as goal
 
-
-
 pub returns-in-2 : goal.returns-in-2
 returns-in-2 c = rw c.in-2.is (sym (bool_above c.args.bits))
 

@@ -2,8 +2,6 @@ use borrow.Author.Tests.{eq-eqb, ne_eqb}
 use Rattle.property_value.specs.Value.{word_of}
 use Rattle.property_value.proofs.value.word_of.Goals as goal
 
-
-
 pub returns-then-kind-ne-BOOL : goal.returns-then-kind-ne-BOOL
 returns-then-kind-ne-BOOL c = unfold word_of in rw (ne_eqb c.args.kind 2 c.if-kind-ne-BOOL.true)
 

@@ -31,7 +31,7 @@ overflow_add-count c =
     let a = c.args in
     let p = a.s.pending.xy in
     let fits : (p.start + p.count + 2 ≤ length a.xy.now) × (p.start + p.count + 2 ≤ 131072) =
-        room_in_lem _ _ _ (both (belongs a.s.feature a.n && a.ready) (pair_room a.s.pending (length a.xy.now)) (is_true ((λ i. c.belongs-own.ensures i && c.args.ready && c.lane_room.ensures i)) (ap not c.if-not-own-ready.false))).1 in
+    room_in_lem _ _ _ (both (belongs a.s.feature a.n && a.ready) (pair_room a.s.pending (length a.xy.now)) (is_true ((λ i. c.belongs-own.ensures i && c.args.ready && c.lane_room.ensures i)) (ap not c.if-not-own-ready.false))).1 in
     omega (arith, fits.1)
 
 pub returns : goal.returns

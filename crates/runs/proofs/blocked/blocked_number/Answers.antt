@@ -2,8 +2,6 @@ use mathlib.Core.Path.{refl}
 use Rattle.laws.specs.Cond.{if_so, if_not}
 use Rattle.runs.proofs.blocked.blocked_number.Goals as goal
 
-
-
 pub returns-then-waiting : goal.returns-then-waiting
 returns-then-waiting c = if_so _ c.if-waiting.true refl
 

@@ -86,14 +86,14 @@ pub push_pair-requires : goal.push_pair-requires
 push_pair-requires c =
     let at = c.loop-taken in
     let fits : (at.pending.xy.start + at.pending.xy.count + 2 ≤ length at.xy) × (at.pending.xy.start + at.pending.xy.count + 2 ≤ 131072) =
-        room_in_lem _ _ _ (is_true c.lane_room.ensures (ap not c.if-not-lane_room.false)) in
+    room_in_lem _ _ _ (is_true c.lane_room.ensures (ap not c.if-not-lane_room.false)) in
     fits.0
 
 pub overflow_add-count : goal.overflow_add-count
 overflow_add-count c =
     let at = c.loop-taken in
     let fits : (at.pending.xy.start + at.pending.xy.count + 2 ≤ length at.xy) × (at.pending.xy.start + at.pending.xy.count + 2 ≤ 131072) =
-        room_in_lem _ _ _ (is_true c.lane_room.ensures (ap not c.if-not-lane_room.false)) in
+    room_in_lem _ _ _ (is_true c.lane_room.ensures (ap not c.if-not-lane_room.false)) in
     omega (arith, fits.1)
 
 pub overflow_add-taken : goal.overflow_add-taken
@@ -279,4 +279,3 @@ shape_of-tm c = c.loop-taken.invariant.long_tm
 
 pub returns : goal.returns
 returns c = record { run = c.loop-taken.invariant; stop = omega (arith, c.loop-taken-test.false, c.loop-taken.invariant.within) }
-

@@ -4,8 +4,6 @@ use borrow.Author.Rules.{rules}
 use Rattle.laws.specs.Branch.{is_true, is_false}
 use Rattle.runs.proofs.run.values_room.Goals as goal
 
-
-
 pub returns-then-not-lane_room : goal.returns-then-not-lane_room
 returns-then-not-lane_room c = rw (is_false c.lane_room.ensures (ap not c.if-not-lane_room.true))
 

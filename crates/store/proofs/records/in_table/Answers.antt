@@ -1,7 +1,5 @@
 use borrow.Author.Rules.{rules}
 use Rattle.store.proofs.records.in_table.Goals as goal
 
-
-
 pub returns-in-Stretch : goal.returns-in-Stretch
 returns-in-Stretch c = rw c.in-Stretch.is

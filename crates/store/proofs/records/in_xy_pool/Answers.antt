@@ -1,8 +1,6 @@
 use borrow.Author.Rules.{rules}
 use Rattle.store.proofs.records.in_xy_pool.Goals as goal
 
-
-
 pub returns-then-in_pool : goal.returns-then-in_pool
 returns-then-in_pool c = rw (c.in-List.is, ← c.in_pool.ensures, c.if-in_pool.true)
 

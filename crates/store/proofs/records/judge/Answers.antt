@@ -1,8 +1,6 @@
 use borrow.Author.Rules.{rules}
 use Rattle.store.proofs.records.judge.Goals as goal
 
-
-
 pub returns-then-lists_in : goal.returns-then-lists_in
 returns-then-lists_in c = rw (c.in-Good.is, ← c.lists_in.ensures, c.if-lists_in.true)
 

@@ -11,8 +11,6 @@ use Rattle.store.specs.Lone.{LoneAt, in_xy_pool, lone_at}
 use Rattle.store.specs.RecordLaws.{record_room}
 use Rattle.store.proofs.records.lone_list_at.Goals as goal
 
-
-
 pub overflow_mul-from : goal.overflow_mul-from
 overflow_mul-from c = omega (arith, record_room _ _ (is_true c.has_record.ensures (ap not c.if-not-has_record.false)))
 

@@ -7,8 +7,6 @@ use Rattle.laws.specs.Runs.{lent_part}
 use Rattle.store.specs.Records.{put_record}
 use Rattle.store.proofs.records.put_record.Goals as goal
 
-
-
 pub returns : goal.returns
 returns c =
     unfold put_record in let a = c.args in

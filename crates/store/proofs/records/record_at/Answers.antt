@@ -11,8 +11,6 @@ use Rattle.store.specs.Records.{record_in, judged}
 use Rattle.store.specs.RecordLaws.{record_room, record_is, record_none}
 use Rattle.store.proofs.records.record_at.Goals as goal
 
-
-
 pub returns-then-not-has_record : goal.returns-then-not-has_record
 returns-then-not-has_record c =
     let a = c.args in

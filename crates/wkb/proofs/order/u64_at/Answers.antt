@@ -3,8 +3,6 @@ use mathlib.Core.Path.{sym, ◌∙◌}
 use Rattle.wkb.specs.Order.{value_big, value_little}
 use Rattle.wkb.proofs.order.u64_at.Goals as goal
 
-
-
 pub returns-in-Big : goal.returns-in-Big
 returns-in-Big c = let a = c.args in c.u64_big_at.ensures ∙ sym (value_big a.order 8 a.s.now a.at c.in-Big.is)
 

@@ -4,8 +4,6 @@ use Rattle.property_writer.specs.declared.PropertyPut.{PropertyPut}
 use Rattle.writer.specs.Property.{counted, property_call, property_place}
 use Rattle.writer.proofs.properties.property.Goals as goal
 
-
-
 pub returns : goal.returns
 returns c =
     unfold property_call property_place in let put = c.put_property-put in

@@ -6,8 +6,6 @@ use Rattle.pending.specs.Room.{room_of_lem}
 use Rattle.writing.specs.Calls.{decide_finish}
 use Rattle.writing.proofs.decide.decide_finish.Goals as goal
 
-
-
 pub returns-then-s : goal.returns-then-s
 returns-then-s c = unfold decide_finish in if_so _ c.if-s.true refl
 

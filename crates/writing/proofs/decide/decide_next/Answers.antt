@@ -6,8 +6,6 @@ use Rattle.writing.specs.State.{wrote}
 use Rattle.writing.specs.Calls.{decide_next}
 use Rattle.writing.proofs.decide.decide_next.Goals as goal
 
-
-
 pub returns-then-not-s : goal.returns-then-not-s
 returns-then-not-s c = unfold decide_next in if_not _ (not-true c.args.s.waiting c.if-not-s.true) refl
 

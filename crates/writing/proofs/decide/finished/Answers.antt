@@ -8,8 +8,6 @@ use Rattle.pending.specs.declared.words.Pending.{Pending}
 use Rattle.writing.specs.Calls.{finished as spec-finished}
 use Rattle.writing.proofs.decide.finished.Goals as goal
 
-
-
 pub returns-then-s-eq0 : goal.returns-then-s-eq0
 returns-then-s-eq0 c = unfold spec-finished in c.waiting_with.ensures ∙ ap (λ (p : Pending). with_waiting (with_pending c.args.s p) true) (if_so _ (eq-eqb _ _ c.if-s-eq0.true) c.past_all.ensures)
 

@@ -5,8 +5,6 @@ use Rattle.pending.specs.Room.{grown_fits}
 use Rattle.writing.specs.Calls.{state_after}
 use Rattle.writing.proofs.decide.state_after.Goals as goal
 
-
-
 pub past_all-rest-requires : goal.past_all-rest-requires
 past_all-rest-requires c = rw c.grown_all-pending.ensures (grown_fits _ _ c.requires.fits)
 

@@ -3,8 +3,6 @@ use borrow.Author.Rules.{rules}
 use Rattle.laws.specs.Cond.{if_so, if_not}
 use Rattle.writing.proofs.ready.records_for.Goals as goal
 
-
-
 pub returns-then-a : goal.returns-then-a
 returns-then-a c = if_so _ c.if-a.true refl
 

@@ -3,8 +3,6 @@ use borrow.Author.Rules.{rules}
 use Rattle.laws.specs.Cond.{if_so, if_not}
 use Rattle.writing.proofs.ready.records_used.Goals as goal
 
-
-
 pub returns-then-s : goal.returns-then-s
 returns-then-s c = if_so _ c.if-s.true refl
 

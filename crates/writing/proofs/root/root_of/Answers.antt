@@ -4,8 +4,6 @@ use Rattle.laws.specs.Cond.{if_so, if_not}
 use Rattle.writing.specs.Calls.{root_of}
 use Rattle.writing.proofs.root.root_of.Goals as goal
 
-
-
 pub returns-then-s-eq0 : goal.returns-then-s-eq0
 returns-then-s-eq0 c = unfold root_of in if_so _ (eq-eqb _ _ c.if-s-eq0.true) c.part_of.ensures
 

@@ -3,8 +3,6 @@ use native.Mathlib.Omega.{arith}
 use Rattle.kinds.specs.EventLaws.{uses_in, uses_past}
 use Rattle.kinds.proofs.event.Event.uses.Goals as goal
 
-
-
 pub returns-in-1 : goal.returns-in-1
 returns-in-1 c = rw c.in-1.is
 

@@ -1,0 +1,11 @@
+use mathlib.Core.Path.{◌≡◌}
+use native.Mathlib.Omega.{arith}
+use lib.ListN.{length}
+use borrow.Author.Rules.{rules}
+use Rattle.cases.proofs.main.Goals as goal
+
+pub loop-turns-smaller : goal.loop-turns-smaller
+loop-turns-smaller c = omega arith
+
+pub loop-turns-preserved : goal.loop-turns-preserved
+loop-turns-preserved c = omega arith
