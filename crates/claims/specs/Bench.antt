@@ -20,8 +20,8 @@ use Rattle.properties.specs.Examples as Properties
 use Rattle.writing.specs.State.{Mem}
 use Rattle.writing.specs.Calls.{started, event_call}
 use Rattle.writer_model.specs.Bench.{line, lines, polygon, two, three, four, rec, root}
-use Rattle.writer_model.specs.BenchCalls as Called
-use Rattle.writer_model.specs.BenchCalls.{blank, Makes}
+use Rattle.writer_model.proofs.BenchCalls as Called
+use Rattle.writer_model.specs.BenchCalls.{blank, Makes, b6_called}
 use Rattle.writer_model.specs.Feature.{finished_mem}
 use Rattle.writer_model.specs.Tree.{Holds}
 use Rattle.geometries.specs.Told.{told}
@@ -99,7 +99,7 @@ b5 n = (Called.b5_called n, says _ _ _ _ (b5_says _ (Called.b5_called n).1))
 
 -- B6. Without promote: 5, on any memory.
 pub b6 : (n : ℕ) (k : Mem) → (event_call (started 5 false false) k ((events n).bytes (begin_e 2 true 2 0))).wrote.number ≡ 5
-b6 = Called.b6_called
+b6 = b6_called
 
 -- B7. MultiPolygon, no polygon: empty xy, no parts; reads 2, no event.
 pub b7 : Gives 6 false false (blank 1 0 0) (begin_e 6 false 0 0 ∷ end_e 6 false 0 ∷ []) (rec 0 [] none ∷ []) (stop 2)

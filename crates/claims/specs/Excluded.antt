@@ -24,13 +24,15 @@ use Rattle.writing.specs.Calls.{started, event_call, event_with, if_due, decide_
 use Rattle.asking.specs.Ask.{ask_of, begun}
 use Rattle.pending.specs.Room.{has_room}
 use Rattle.writer_model.specs.Bench.{polygon, four, rec}
-use Rattle.writer_model.specs.BenchCalls.{blank, b1_called, b2_called}
+use Rattle.writer_model.specs.BenchCalls.{blank}
+use Rattle.writer_model.proofs.BenchCalls.{b1_called, b2_called}
 use Rattle.writer_model.specs.Writer.{Writer, fresh}
 use Rattle.writer_model.specs.Call.{Call, event_c, finish_c, next_c, called}
 use Rattle.writer_model.specs.Rows.{Reached, start}
 use Rattle.writer_model.specs.Fed.{given, takes, fed_to, fed_mem, pairs_of, first-heard, first-numbered, takes-rest, fed_rest}
 use Rattle.writer_model.specs.Feature.{finishes_in, finished_mem, next_mem, done, finished-is, renewed-is}
-use Rattle.writer_model.specs.Example.{first, second, again, over, all-taken, goes_on, first-over, again-taken, second-read}
+use Rattle.writer_model.specs.Example.{first, second, again, over}
+use Rattle.writer_model.proofs.Example.{all-taken, goes_on, first-over, again-taken, second-read}
 use Rattle.writer_model.specs.Example as Example
 use Rattle.as_words.specs.Words.{state_of, words_of}
 use Rattle.as_words.specs.WordLaws.{state-words}

@@ -25,8 +25,10 @@ use Rattle.writer_model.specs.Writer.{Writer, fresh, after, after_all, root_over
 use Rattle.writer_model.specs.Call.{Call as Inner, event_c, finish_c, next_c, called, hears, after_call}
 use Rattle.writer_model.specs.Refused.{refused as unchanged}
 use Rattle.writer_model.specs.Pairs.{pair_of, parts_xy, all_xy_at}
-use Rattle.writer_model.specs.Rows.{pair_in, pairs_after, Reached, start as begin, lent as changed, accepted, property as written, row-pairs, accepted_pairs}
-use Rattle.writer_model.specs.Tree.{Holds, row-tree}
+use Rattle.writer_model.specs.Rows.{pair_in, pairs_after, Reached, start as begin, lent as changed, accepted, property as written}
+use Rattle.writer_model.proofs.Rows.{row-pairs, accepted_pairs}
+use Rattle.writer_model.specs.Tree.{Holds}
+use Rattle.writer_model.proofs.Tree.{row-tree}
 use Rattle.writer_model.specs.Fed.{agrees_self, pairs_of}
 use Rattle.claims.specs.Row.{Call, event, events, property, finish, next, Lends, Step, took, finished, renewed, took_all, events_in, Accepted, with_events, with_property, with_finish, with_next, carried_by, heard_in, heard_from, put, leaves, accepts, Untaken, Row, start, lent, call, untaken}
 

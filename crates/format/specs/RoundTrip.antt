@@ -14,8 +14,10 @@ use Rattle.writing.specs.declared.state.State.{State}
 use Rattle.writing.specs.State.{Mem}
 use Rattle.writer_model.specs.Writer.{Writer, fresh, root_over, finish, tree, next}
 use Rattle.writer_model.specs.Stands.{Agrees}
-use Rattle.writer_model.specs.Rows.{Reached, row_stands}
-use Rattle.writer_model.specs.Tree.{Holds, row-tree}
+use Rattle.writer_model.specs.Rows.{Reached}
+use Rattle.writer_model.proofs.Rows.{row_stands}
+use Rattle.writer_model.specs.Tree.{Holds}
+use Rattle.writer_model.proofs.Tree.{row-tree}
 use Rattle.geometries.specs.Geometry.{Coord, Simple, simple, collection, Geometry, deep, flatly, simple_depth, depth}
 use Rattle.geometries.specs.Events.{events_of}
 use Rattle.format.specs.Format.{Tree}

@@ -4,15 +4,9 @@ pub mod Machine
 pub mod Inside
 pub mod Gathered
 pub mod Tests
-pub mod Made
-pub mod Seen
-pub mod Accepts
-pub mod Completes
-pub mod Exactly
 pub mod Flat
 pub mod FlatEvents
 pub mod FlatLaws
 pub mod Levels
-pub mod Sound
 pub mod Taking
 pub mod Examples

@@ -4,9 +4,9 @@ use Rattle.std.proofs.Common.{sym, ap, ◌∙◌, arith, lt-ltb}
 use Rattle.std.proofs.Math.Bool.{and-true}
 use Rattle.laws.specs.Every.{never, both}
 use Rattle.nesting.specs.declared.frame.Frame.{Frame as Held}
-use Rattle.nesting.specs.Events.{GeometryType, Point, LineString, Polygon, MultiPoint, MultiLineString, MultiPolygon, Collection, begin}
+use Rattle.nesting.specs.Events.{GeometryType, Point, LineString, Polygon, MultiPoint, MultiLineString, MultiPolygon, Collection}
 use Rattle.nesting.specs.Rules.{Rules, limit, limit64}
-use Rattle.nesting.specs.Machine.{Frame, frame, within, Answer, taken, refused, number, same, of_pairs, count, only_lines, only_polygons, Place, here, too_deep, nowhere, allowed, parts, place, one_more, begin_fits, end_fits, pair_fits, begin_at}
+use Rattle.nesting.specs.Machine.{Frame, frame, within, Answer, taken, refused, number, same, of_pairs, count, only_lines, only_polygons, Place, here, too_deep, nowhere, allowed, parts, place, one_more, begin_fits, pair_fits, begin_at}
 use Rattle.nesting.specs.Levels.{opens_where, rules_for}
 use Rattle.nesting.specs.Tests.{same_true}
 
@@ -165,12 +165,6 @@ opens-is deeper MultiLineString = refl
 opens-is deeper MultiPolygon = refl
 opens-is deeper Collection = refl
 
-same-is : (a b : Bool) → ((a && b) || (not a && not b)) ≡ same a b
-same-is true true = refl
-same-is true false = refl
-same-is false true = refl
-same-is false false = refl
-
 -- ---- tests of a frame, by its fields
 module _ (g : Frame) (kind : ℕ) (tagged : Bool) (done size : ℕ) (is-kind : kind ≡ number g.type) (is-tagged : tagged ≡ g.tagged) (is-done : done ≡ g.done) (is-size : size ≡ g.size) where
   pair_fits_lem : (idx x y : ℕ) → x < limit64 → y < limit64 → ((eqb kind 1 || eqb kind 2 || eqb kind 4) && ltb done size && eqb idx done) ≡ pair_fits g x y idx
@@ -178,17 +172,8 @@ module _ (g : Frame) (kind : ℕ) (tagged : Bool) (done size : ℕ) (is-kind : k
       let p : Bool = of_pairs g.type && ltb g.done g.size && eqb idx g.done in
       rw (is-kind, is-done, is-size, pairs_is g.type, lt-ltb x limit64 h, lt-ltb y limit64 k) (sym (and-true (p && true) ∙ and-true p))
 
-  end_fits_lem : (own idx : ℕ) → own ≡ g.idx → (type : GeometryType) (tag : Bool) → (eqb (number type) kind && ((tag && tagged) || (not tag && not tagged)) && eqb idx own && eqb done size) ≡ end_fits g type tag idx
-  end_fits_lem own idx is-own type tag = rw (is-kind, is-tagged, is-done, is-size, is-own, same-is tag g.tagged)
-
 pub pair-taken : (f : Held) (g : Frame) → Is f g → (idx x y : ℕ) → x < limit64 → y < limit64 → ((eqb f.kind 1 || eqb f.kind 2 || eqb f.kind 4) && ltb f.done f.size && eqb idx f.done) ≡ pair_fits g x y idx
 pair-taken f g h idx x y = pair_fits_lem g f.kind f.tagged f.done f.size h.kind h.tagged h.done h.size idx x y
-
-pub end-taken : (f : Held) (g : Frame) → Is f g → (kind : ℕ) (tagged : Bool) (idx : ℕ) (type : GeometryType) → kind ≡ number type
-    → (eqb kind f.kind && ((tagged && f.tagged) || (not tagged && not f.tagged)) && eqb idx f.idx && eqb f.done f.size) ≡ end_fits g type tagged idx
-end-taken f g h kind tagged idx type e =
-    ap (λ (n : ℕ). eqb n f.kind && ((tagged && f.tagged) || (not tagged && not f.tagged)) && eqb idx f.idx && eqb f.done f.size) e
-    ∙ end_fits_lem g f.kind f.tagged f.done f.size h.kind h.tagged h.done h.size f.idx idx h.idx type tagged
 
 -- ---- a begin
 pub not-deep : (a b : Bool) → (a && b && false) ≡ false

@@ -1,5 +1,3 @@
 pub mod Reading
 pub mod Roles
-pub mod RoleLaws
-pub mod Lone
 pub mod Examples

@@ -10,7 +10,7 @@ use Rattle.tree_walk.specs.declared.Parts.{Parts}
 use Rattle.tree_walk.specs.Tree.{refused, found, parts, through}
 use Rattle.tree_walk.specs.Widen.{all, Growing, growing}
 use Rattle.tree_walk.specs.Memory.{Left, left, kept, uncounted}
-use Rattle.tree_walk.specs.Remembers.{Agree, agrees, so_refused, so_went, none_marked}
+use Rattle.tree_walk.proofs.Remembers.{Agree, agrees, so_refused, so_went, none_marked}
 use Rattle.tree_walk.specs.Records.{parts_in, parts_by, parts_lent, by_lent as parts-by-lent}
 use Rattle.bbox.specs.declared.Box.{Box}
 use Rattle.bbox.specs.Box.{beginning, box_from, widen}

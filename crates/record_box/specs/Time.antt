@@ -6,8 +6,9 @@ use Rattle.kinds.specs.declared.geometry.Lent.{Lent}
 use Rattle.tree_walk.specs.declared.Parts.{Parts}
 use Rattle.tree_walk.specs.Memory.{left, kept, uncounted}
 use Rattle.tree_walk.specs.Visits.{places}
-use Rattle.tree_walk.specs.Alike.{few_in_all}
-use Rattle.tree_walk.specs.Looks.{Looks, look, looks_once}
+use Rattle.tree_walk.proofs.Alike.{few_in_all}
+use Rattle.tree_walk.specs.Looks.{Looks, look}
+use Rattle.tree_walk.proofs.Looks.{looks_once}
 use Rattle.tree_walk.specs.Records.{parts_lent, placed}
 use Rattle.bbox.specs.declared.Box.{Box}
 use Rattle.record_box.specs.Lent.{own_lent}

@@ -4,14 +4,10 @@ pub mod Refusals
 pub mod Levels
 pub mod Anywhere
 pub mod Widen
-pub mod Again
 pub mod Reached
 pub mod Memory
 pub mod Cases
-pub mod Remembers
 pub mod Steps
 pub mod Visits
-pub mod Alike
-pub mod Marks
 pub mod Looks
 pub mod Records

@@ -16,7 +16,7 @@ use Rattle.nesting.specs.Events.{GeometryType, Event, begin, end, pair, strange}
 use Rattle.nesting.specs.Rules.{limit64}
 use Rattle.nesting.specs.Machine.{number, numbered}
 use Rattle.nesting.specs.Flat.{is_type, read_as, read}
-use Rattle.nesting.specs.FlatLaws.{number-numbered}
+use Rattle.nesting.proofs.FlatLaws.{number-numbered}
 use Rattle.wkb_events.specs.declared.told.Told.{Told}
 use Rattle.wkb_events.specs.declared.told.Told.TheVariants.{Pair, Begin, End, Strange, Malformed}
 

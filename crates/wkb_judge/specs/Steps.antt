@@ -15,7 +15,7 @@ use Rattle.nesting.specs.Machine.{Frame, frame, outside, State, within, start, t
 use Rattle.nesting.specs.Flat.{read}
 use Rattle.nesting.specs.Levels.{any_depth, sixteen, rules_of_lem}
 use Rattle.nesting.specs.Rules.{Rules}
-use Rattle.nesting.specs.Sound.{reached_sound}
+use Rattle.nesting.proofs.Sound.{reached_sound}
 use Rattle.nesting.specs.Tests.{five}
 use Rattle.nesting.specs.Taking.{Is, ample, begins, begin_goes, begin_stops as begin-refused, Refused}
 use Rattle.nesting.specs.declared.frame.Frame.{Frame as Held}

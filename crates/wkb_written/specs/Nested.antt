@@ -13,7 +13,8 @@ use Rattle.nesting.specs.Events.{GeometryType, MultiPoint, MultiLineString, Mult
 use Rattle.nesting.specs.Rules.{Rules, limit, PairRule, LineRule, RingsRule, Clear, SimpleRule, GeometryRule}
 use Rattle.nesting.specs.Machine.{Frame, frame, outside, within, start, closed, Answer, taken, refused, count, Place, here, too_deep, nowhere, place, one_more, begin_fits, end_fits, pair_fits, begin_at, end_at, step, and_then, run}
 use Rattle.nesting.specs.Flat.{read}
-use Rattle.nesting.specs.FlatLaws.{WellFormed, FlatWhole, flat_exactly}
+use Rattle.nesting.specs.FlatLaws.{WellFormed, FlatWhole}
+use Rattle.nesting.proofs.FlatLaws.{flat_exactly}
 use Rattle.nesting.specs.Levels.{any_depth, sixteen, sixteen-levels}
 use Rattle.wkb_written.specs.Writing.{is_closed, nested}
 

@@ -1,38 +1,33 @@
 -- Rows of calls there are: memory that is free between calls, refused calls, and two features of any two numbers with a pair left over from the first, which is carried into the second.
 use Rattle.std.specs.Prelude.{◌≡◌, Bool, true, ℕ, ◌<◌, replicate}
-use Rattle.std.proofs.Math.Path.{refl, ap, subst}
-use Rattle.std.proofs.Common.{sym, ◌∙◌, arith, ne_eqb}
+use Rattle.std.proofs.Math.Path.{refl}
+use Rattle.std.proofs.Common.{arith, ne_eqb}
 use Rattle.std.proofs.Math.Bool.{false}
 use mathlib.Core.List.{List, [], ◌∷◌, ◌++◌}
 use Rattle.std.proofs.Math.Option.{none}
 use Rattle.laws.specs.Every.{never}
 use Rattle.kinds.specs.LaneLaws.{by_lane}
 use Rattle.kinds.specs.Event.{begin_e, end_e, xy_e, well_formed}
-use Rattle.kinds.specs.Lanes.{xyL, endsL, zL, mL, tL, tmL}
 use Rattle.kinds.specs.declared.event.Event.{Event}
-use Rattle.store.specs.Lists.{pools_of, lent_of, record_with}
+use Rattle.store.specs.Lists.{pools_of, lent_of}
 use Rattle.event_log.specs.Log.{events, hear_said, feature-said}
-use Rattle.store.specs.Records.{records_lent}
 use Rattle.writing.specs.declared.state.State.{State}
 use Rattle.pending.specs.Words.{words}
 use Rattle.writing.specs.State.{Mem, memory}
 use Rattle.asking.specs.SetType.{set_type, collected}
-use Rattle.writing.specs.Calls.{started, state_after, if_due, decide_event, event_with, event_call, finished, decide_finish, renewed, decide_next}
+use Rattle.writing.specs.Calls.{started, state_after, if_due, decide_event, event_with, event_call, finished, renewed}
 use Rattle.asking.specs.Ask.{ask_of, begun}
 use Rattle.pending.specs.Room.{has_room}
-use Rattle.pending.specs.Growth.{grown_all, past_all}
+use Rattle.pending.specs.Growth.{grown_all}
 use Rattle.writer_model.specs.Writer.{Writer, fresh, longer, part_of, finish_part, coordinate, after, after_all, finish, tree, next}
 use Rattle.writer_model.specs.Bench.{rec, root}
 use Rattle.writer_model.specs.Lanes.{words-by}
 use Rattle.writer_model.specs.BenchCalls.{b6_called}
 use Rattle.writer_model.specs.Call.{event_c, called}
 use Rattle.writer_model.specs.Stands.{Agrees}
-use Rattle.writer_model.specs.Lengths.{SameLengths}
-use Rattle.writer_model.specs.Rows.{Reached, start, refusal, row_lists}
-use Rattle.writer_model.specs.Tree.{Holds}
+use Rattle.writer_model.specs.Rows.{Reached, start, refusal}
 use Rattle.writer_model.specs.Fed.{sized-is, fed_state, fed_to}
-use Rattle.writer_model.specs.Feature.{finishes_in, finished_mem, next_mem, finishes-same, whole_same, tree-left, next-reached, next_lengths}
-use Rattle.writer_model.specs.AnyNumber.{finishes-any, goes_any, renewed-any}
+use Rattle.writer_model.specs.Feature.{next_mem}
 
 -- a start uses nothing
 pub start-agrees : (declared : ℕ) (detect promote : Bool) (k k' : Mem) → Agrees (started declared detect promote) k k'
@@ -88,56 +83,8 @@ again n = renewed (finished (fed_to begin n blank first))
 abbrev pub over : ℕ → Mem
 over n = next_mem begin n blank first
 
-abbrev carrying : Writer
+abbrev pub carrying : Writer
 carrying = next (finish (after_all (fresh 7 false false) first))
-
--- under number 0 these are computed
-taken_once : finishes_in begin 0 blank first ≡ true
-unfolding started ask_of begun set_type collected has_room grown_all past_all state_after decide_event if_due decide_finish well_formed begin_e end_e xy_e
-taken_once = refl
-
-goes_once : (decide_next (finished (fed_to begin 0 blank first)) (records_lent blank.table) (lent_of blank.pools)).number ≡ 0
-unfolding started ask_of begun set_type collected has_room grown_all past_all state_after decide_event if_due finished decide_next begin_e end_e xy_e
-goes_once = refl
-
-again_once : finishes_in (again 0) 0 blank second ≡ true
-unfolding started ask_of begun set_type collected has_room grown_all past_all state_after decide_event if_due finished decide_finish renewed well_formed begin_e end_e xy_e
-again_once = refl
-
-module _ (n : ℕ) where
-  pub all-taken : finishes_in begin n blank first ≡ true
-  unfolding started
-  all-taken = finishes-any begin n 0 refl blank first ∙ taken_once
-
-  pub goes_on : (decide_next (finished (fed_to begin n blank first)) (records_lent blank.table) (lent_of blank.pools)).number ≡ 0
-  unfolding started
-  goes_on = goes_any begin n 0 refl blank first ∙ goes_once
-
-  -- next lets the number go: the state has nothing of it
-  pub again-is : again n ≡ again 0
-  unfolding started
-  again-is = renewed-any begin n 0 refl blank first
-
-  module _ (fits : n < 4294967296) where
-    lengths : SameLengths blank (over n)
-    lengths = next_lengths begin n blank (fresh 7 false false) [] first fits all-taken (start 7 false false blank) goes_on
-
-    -- the pair that is left over is all that is carried in
-    pub first-over : Reached (again n) (over n) carrying (3 ∷ 4 ∷ [])
-    unfolding fresh after_all after begun set_type collected coordinate finish_part part_of longer finish next begin_e end_e xy_e
-    first-over =
-        let r = next-reached begin n blank (fresh 7 false false) [] first fits all-taken (start 7 false false blank) goes_on in
-        subst (Reached (again n) (over n) carrying) (sym (row_lists r)) r
-
-    module _ (m : ℕ) where
-      pub again-taken : finishes_in (again n) m (over n) second ≡ true
-      unfolding renewed
-      again-taken = finishes-same (again n) m second blank (over n) lengths (finishes-any (again n) m 0 refl blank second ∙ ap (λ (s : State). finishes_in s 0 blank second) again-is ∙ again_once)
-
-      pub second-read : m < 4294967296 → Holds (record_with (finished_mem (again n) m (over n) second).table (finished_mem (again n) m (over n) second).pools) 0 (root 1 1 ∷ rec 1 (3 ∷ 4 ∷ 5 ∷ 6 ∷ []) none ∷ [])
-      second-read small =
-          subst (Holds (record_with (finished_mem (again n) m (over n) second).table (finished_mem (again n) m (over n) second).pools) 0) carried
-          (tree-left (again n) m (over n) carrying (3 ∷ 4 ∷ []) second small again-taken first-over (whole_same blank (over n) lengths refl))
 
 -- ---- amid the first feature an event of another is refused, whatever is lent
 pub another_refused : (n m : ℕ) (k : Mem) → n < 4294967296 → m < 4294967296 → (m ≡ n → ⊥)

@@ -1,22 +1,21 @@
 -- A feature on lent memory: its events under its number, finish, the tree that is read, next. That all is accepted is again a test that looks at lengths alone.
 use Rattle.std.specs.Prelude.{◌≡◌, Bool, true, ◌&&◌, List, ◌++◌, ℕ, ◌<◌, eqb}
-use Rattle.std.proofs.Math.Path.{refl, ap}
+use Rattle.std.proofs.Math.Path.{ap}
 use Rattle.std.proofs.Common.{◌∙◌, eqb-true}
 use Rattle.laws.specs.Every.{both}
 use Rattle.kinds.specs.declared.event.Event.{Event}
 use Rattle.kinds.specs.declared.geometry.Lent.{Lent}
-use Rattle.store.specs.Lists.{lent_of, record_with}
+use Rattle.store.specs.Lists.{lent_of}
 use Rattle.store.specs.Records.{records_lent, table_good}
 use Rattle.writing.specs.declared.state.State.{State}
 use Rattle.writing.specs.State.{Mem}
 use Rattle.writing.specs.Calls.{finished, decide_finish, finish_call, renewed, decide_next, next_call}
-use Rattle.writer_model.specs.Writer.{Writer, after_all, root_over, finish, tree, next}
+use Rattle.writer_model.specs.Writer.{Writer, after_all, finish, next}
 use Rattle.writer_model.specs.Took.{took-finish, took-next}
 use Rattle.writer_model.specs.Call.{finish_c, next_c}
 use Rattle.writer_model.specs.Lengths.{SameLengths, lent_same, call_lengths}
 use Rattle.writer_model.specs.Pairs.{pending_at}
-use Rattle.writer_model.specs.Rows.{Reached, accepted, row_stands}
-use Rattle.writer_model.specs.Tree.{Holds, tree-read}
+use Rattle.writer_model.specs.Rows.{Reached, accepted}
 use Rattle.writer_model.specs.Fed.{takes, fed_state, fed_to, fed_mem, pairs_of, Fed, fed}
 
 abbrev pub finishes : State → ℕ → ℕ → Lent → List Event → Bool
@@ -64,13 +63,6 @@ module _ (s : State) (n : ℕ) (k : Mem) (w : Writer) (l : List ℕ) (es : List 
 
   pub finish-reached : Reached (finished end) (finished_mem s n k es) (finish (after_all w es)) (l ++ pairs_of es)
   finish-reached = rw finished-is at (accepted finish_c done so_far.reached)
-
-  -- the tree is read from the memory that finish leaves
-  pub tree-left : table_good k.table ≡ true → Holds (record_with (finished_mem s n k es).table (finished_mem s n k es).pools) 0 (tree (after_all w es))
-  unfolding finished finish
-  tree-left whole =
-      let v : Writer = after_all w es in
-      tree-read (finished end) (finished_mem s n k es) (finish v) (row_stands finish-reached) (root_over v v.parts) refl (whole_same k _ finish_lengths whole)
 
   -- after the feature is finished, the next one begins
   module _ (goes : (decide_next (finished end) (records_lent k.table) (lent_of k.pools)).number ≡ 0) where

@@ -9,9 +9,6 @@ pub mod Stays
 pub mod Took
 pub mod Asked
 pub mod Pool
-pub mod PartShown
-pub mod EventStands
-pub mod FinishStands
 pub mod NextStands
 pub mod Call
 pub mod Refused

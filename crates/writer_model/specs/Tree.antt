@@ -14,15 +14,11 @@ use Rattle.store.specs.RecordLaws.{InPool, InTable, record_is, good_lent}
 use Rattle.writing.specs.declared.state.State.{State}
 use Rattle.pending.specs.Words.{words_in}
 use Rattle.writing.specs.State.{pool_in, Mem}
-use Rattle.writing.specs.Calls.{finish_call}
 use Rattle.kinds.specs.LaneLaws.{every_of_lanes}
-use Rattle.writer_model.specs.Writer.{Writer, root_over, tree, finish}
+use Rattle.writer_model.specs.Writer.{Writer}
 use Rattle.writer_model.specs.Each.{Each, each-still}
 use Rattle.writer_model.specs.Lanes.{lent_by}
-use Rattle.writer_model.specs.Stands.{Shows, Stands, Agrees}
-use Rattle.writer_model.specs.Stays.{stands_agree}
-use Rattle.writer_model.specs.FinishStands.{finish_stands}
-use Rattle.writer_model.specs.Rows.{Reached, row_stands}
+use Rattle.writer_model.specs.Stands.{Shows, Stands}
 
 -- an accessor of records by number has these, from a number on
 abbrev pub Holds : (ℕ → Option Rec) → ℕ → List Rec → Type 0
@@ -82,15 +78,3 @@ module _ (s : State) (k : Mem) (w : Writer) (h : Stands s k w) (r : Rec) (waits 
 
     pub tree-read : Holds (record_with k.table k.pools) 0 (r ∷ w.parts)
     tree-read = each-still (Shows s k) _ 0 (r ∷ w.parts) (λ i a b c q. read i a (omega (arith, h.count)) q) shown
-
--- between finish and next, on any memory that agrees with what finish left
-pub finished-read : (s : State) (k m : Mem) (w : Writer) → Stands s k w → (finish_call s k).wrote.number ≡ 0 → Agrees (finish_call s k).wrote.state (finish_call s k).mem m
-    → table_good m.table ≡ true → Holds (record_with m.table m.pools) 0 (tree w)
-unfolding finish
-finished-read s k m w h q a whole =
-    tree-read _ m (finish w) (stands_agree _ (finish_call s k).mem m (finish w) a (finish_stands s k w h q)) (root_over w w.parts) refl whole
-
--- after any row of calls, while a feature waits, what is lent holds that feature's tree
-pub row-tree : {s : State} {k : Mem} {w : Writer} {l : List ℕ} → Reached s k w l → (r : Rec) → w.root ≡ some r → (m : Mem) → Agrees s k m
-    → table_good m.table ≡ true → Holds (record_with m.table m.pools) 0 (r ∷ w.parts)
-row-tree {s} {k} {w} row r waits m a whole = tree-read s m w (stands_agree s k m w a (row_stands row)) r waits whole

@@ -6,11 +6,11 @@ use Rattle.kinds.specs.declared.event.Event.{Event}
 use Rattle.store.specs.Lists.{pools_of, lists_of, record_with}
 use Rattle.event_log.specs.Log.{events}
 use Rattle.walks.specs.declared.walk.Walk.{Walk}
-use Rattle.reader.specs.Lone.{part_lone}
+use Rattle.reader.proofs.Lone.{part_lone}
 use Rattle.walks.specs.Walks.{Typed}
 use Rattle.reader.specs.Roles.{part_s, walk_s}
 use Rattle.walks.specs.WalkLaws.{in_typed}
-use Rattle.reader.specs.RoleLaws.{part_deep, part_bad, part_good, good_record, good_lists, bad_record, walk-own, walk-parts, walk_refused, span_absent, span_there, parts-step, parts-over}
+use Rattle.reader.proofs.RoleLaws.{part_deep, part_bad, part_good, good_record, good_lists, bad_record, walk-own, walk-parts, walk_refused, span_absent, span_there, parts-step, parts-over}
 use Rattle.reader.proofs.+read_geometry_n_read_geometrycollection_read_part.Goals as goal
 
 -- ---- a record by its walk

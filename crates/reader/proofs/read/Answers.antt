@@ -8,7 +8,7 @@ use Rattle.walks.specs.declared.walk.Walk.{Walk}
 use Rattle.walks.specs.Walks.{walk_of}
 use Rattle.reader.specs.Roles.{walk_s}
 use Rattle.walks.specs.WalkLaws.{walk-typed}
-use Rattle.reader.specs.RoleLaws.{read_good, read_bad, good_record, good_lists, bad_record}
+use Rattle.reader.proofs.RoleLaws.{read_good, read_bad, good_record, good_lists, bad_record}
 use borrow.Author.Rules.{rules}
 use Rattle.reader.proofs.read.Goals as goal
 

@@ -1,4 +1,4 @@
-use Rattle.nesting.specs.Taking.{end-taken}
+use Rattle.nesting.proofs.Taking.{end-taken}
 use Rattle.nesting.proofs.frame.Frame.takes_end.Goals as goal
 
 pub returns : goal.returns

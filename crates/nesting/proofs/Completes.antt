@@ -8,8 +8,9 @@ use Rattle.planar.specs.Fits.{Each}
 use Rattle.nesting.specs.Rules.{Rules, limit64, GeometryRule}
 use Rattle.nesting.specs.Machine.{Frame, frame, State, within, start, closed, Answer, taken, refused, number, same, of_pairs, count, allowed, Place, here, too_deep, nowhere, place, one_more, begin_fits, end_fits, pair_fits, begin_at, end_at, pair_at, step, and_then, run}
 use Rattle.nesting.specs.Inside.{Inside, any_of, Keeps, Left, Rest, told}
-use Rattle.nesting.specs.Tests.{five, four, allowed_true, same_true, number_true}
-use Rattle.nesting.specs.Made.{Made, OnPlace, made, Pair, paired, many, some, some-keeps}
+use Rattle.nesting.specs.Tests.{five, four, same_true, number_true}
+use Rattle.nesting.proofs.Tests.{allowed_true}
+use Rattle.nesting.proofs.Made.{Made, OnPlace, made, Pair, paired, many, some, some-keeps}
 
 module _ (R : Rules) where
   -- some geometry that keeps the rules has these events first

@@ -4,8 +4,8 @@ use Rattle.std.proofs.Common.{sym, ap, ◌∙◌, arith}
 use Rattle.nesting.specs.Events.{GeometryType, Event, begin, end, pair, strange}
 use Rattle.nesting.specs.Rules.{Rules}
 use Rattle.nesting.specs.Machine.{Frame, Place, here, too_deep, nowhere, place, begin_fits, end_fits, pair_fits, begin_at, end_at, State, within, start, closed, Answer, taken, refused, step, and_then, run}
-use Rattle.nesting.specs.Accepts.{accepts}
-use Rattle.nesting.specs.Completes.{Begins, completes, Whole, completed}
+use Rattle.nesting.proofs.Accepts.{accepts}
+use Rattle.nesting.proofs.Completes.{Begins, completes, Whole, completed}
 
 -- the machine reached a state
 pub record Taken (a : Answer) : Type 0 where

@@ -33,7 +33,7 @@ use Rattle.writer_model.specs.Stays.{Later, parts-still, no_root}
 use Rattle.writer_model.specs.Took.{Room, took-event}
 use Rattle.writer_model.specs.Asked.{counted, extended, acted, after_is}
 use Rattle.writer_model.specs.Pool.{lies_count, lies_push, lies_past}
-use Rattle.writer_model.specs.PartShown.{part_ends, part_sized, part_shown}
+use Rattle.writer_model.proofs.PartShown.{part_ends, part_sized, part_shown}
 
 -- the words are as many as asked
 more_long : (s : State) (a : Added) (e : Event) (n : Lane) → length (gives s a e n) ≡ more a n

@@ -17,7 +17,7 @@ use Rattle.walks.specs.declared.walk.Role.{Role}
 use Rattle.walks.specs.Lone.{LonePart}
 use Rattle.walks.specs.Walks.{walk_in}
 use Rattle.reader.specs.Roles.{part_s, walk_s}
-use Rattle.reader.specs.RoleLaws.{part_good}
+use Rattle.reader.proofs.RoleLaws.{part_good}
 
 module _ (F : Flags) (role : Role) (table : List ℕ) (P : Pools) (n : ℕ) {start count : ℕ} {part : Lone}
     (h : LonePart F role table (length P.xy) n part) (e : part ≡ Alone start count) where

@@ -8,8 +8,9 @@ use Rattle.planar.specs.Fits.{Each}
 use Rattle.nesting.specs.Rules.{Rules, limit64, MayHold, GeometryRule}
 use Rattle.nesting.specs.Machine.{Frame, frame, State, within, start, closed, Answer, taken, number, same, of_pairs, count, allowed, Place, here, place, one_more, begin_at, step, and_then, run}
 use Rattle.nesting.specs.Inside.{Inside, tells, Keeps}
-use Rattle.nesting.specs.Tests.{same_self, true_allowed}
-use Rattle.nesting.specs.Seen.{rank, Group, Seen, a_pair, a_group, seen}
+use Rattle.nesting.specs.Tests.{same_self}
+use Rattle.nesting.proofs.Tests.{true_allowed}
+use Rattle.nesting.proofs.Seen.{rank, Group, Seen, a_pair, a_group, seen}
 
 so : (b : Bool) (x y : Answer) → b ≡ true → cond b x y ≡ x
 so b x y h = rw h

@@ -11,7 +11,7 @@ use Rattle.tree_walk.specs.Tree.{Out, refused, went, then, found, parts, through
 use Rattle.tree_walk.specs.Levels.{more-levels}
 use Rattle.tree_walk.specs.Widen.{Growing}
 use Rattle.tree_walk.specs.Cases.{inside, entering}
-use Rattle.tree_walk.specs.Again.{passed, own_moves_none}
+use Rattle.tree_walk.proofs.Again.{passed, own_moves_none}
 use Rattle.tree_walk.specs.Memory.{Left, left, next, skips, is_mark, parts_kept, own_once, marking, kept}
 
 -- a mark after one was set is the one set or the one before

@@ -11,8 +11,8 @@ use Rattle.tree_walk.specs.Widen.{all, Growing, growing}
 use Rattle.tree_walk.specs.Reached.{reached, joined}
 use Rattle.tree_walk.specs.Memory.{Left, left, next, is_mark, parts_kept, own_once, marking, kept}
 use Rattle.tree_walk.specs.Cases.{inside, entering}
-use Rattle.tree_walk.specs.Alike.{Like, like, alike}
-use Rattle.tree_walk.specs.Remembers.{set-mark, at_first, set_is_mark, Agree, agrees, so_went, none_marked}
+use Rattle.tree_walk.proofs.Alike.{Like, like, alike}
+use Rattle.tree_walk.proofs.Remembers.{set-mark, at_first, set_is_mark, Agree, agrees, so_went, none_marked}
 
 -- ---- a set of records is a value that is widened
 abbrev pub Set : Type 0

@@ -6,7 +6,8 @@ use Rattle.std.proofs.Math.Option.{Option, none, some}
 use Prim.Native.Nat.{ℕ, zero, suc, ◌+◌, ◌*◌, ◌≤◌, ◌<◌}
 use Rattle.tree_walk.specs.declared.Parts.{Parts}
 use Rattle.tree_walk.specs.Memory.{Left, left, next, skips, is_mark, parts_kept, found_kept, own_once, marking, walked, kept}
-use Rattle.tree_walk.specs.Visits.{places, few_entered}
+use Rattle.tree_walk.specs.Visits.{places}
+use Rattle.tree_walk.proofs.Visits.{few_entered}
 
 module _ {S R : Type 0} (Rel : S → R → Type 0) where
   pub data Like : Left S → Left R → Type 0 where

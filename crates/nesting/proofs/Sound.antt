@@ -4,7 +4,8 @@ use Rattle.std.proofs.Common.{arith, eqb-true, ltb-true}
 use Rattle.nesting.specs.Events.{GeometryType, Point, LineString, Polygon, MultiPoint, MultiLineString, MultiPolygon, Collection, Event, begin, end, pair, strange}
 use Rattle.nesting.specs.Rules.{Rules, limit, limit64, MayHold}
 use Rattle.nesting.specs.Machine.{Frame, frame, State, within, start, Answer, taken, refused, same, of_pairs, count, allowed, Place, here, too_deep, nowhere, place, one_more, begin_fits, end_fits, pair_fits, begin_at, end_at, pair_at, step, and_then, run}
-use Rattle.nesting.specs.Tests.{five, four, allowed_true}
+use Rattle.nesting.specs.Tests.{five, four}
+use Rattle.nesting.proofs.Tests.{allowed_true}
 
 pub record Sound (f : Frame) : Type 0 where
   pub done : f.done ≤ f.size

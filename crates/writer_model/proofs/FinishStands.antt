@@ -28,7 +28,7 @@ use Rattle.writer_model.specs.Stands.{Shows, Stands}
 use Rattle.writer_model.specs.Stays.{parts-still, no_root}
 use Rattle.writer_model.specs.Took.{Room, took-finish}
 use Rattle.writer_model.specs.Pool.{lies_past}
-use Rattle.writer_model.specs.PartShown.{part_ends, part_sized, part_shown}
+use Rattle.writer_model.proofs.PartShown.{part_ends, part_sized, part_shown}
 
 -- ---- the record of a root with type and parts alone
 root-sized : (kind parts : ℕ) → parts ≤ 4096 → GeometrySized (root_at kind parts)

@@ -1,0 +1,9 @@
+pub mod Tests
+pub mod Made
+pub mod Seen
+pub mod Accepts
+pub mod Completes
+pub mod Exactly
+pub mod FlatLaws
+pub mod Sound
+pub mod Taking
