@@ -20,11 +20,12 @@ use Rattle.geometries.specs.Events.{events_of}
 use Rattle.format.specs.Format.{Tree}
 use Rattle.geometries.specs.Told.{told, Complete}
 use Rattle.format.specs.Reads.{agrees}
-use Rattle.format.specs.ReadsCall.{table_reads, reads_said}
+use Rattle.format.proofs.ReadsCall.{table_reads, reads_said}
 use Rattle.format.specs.Writable.{Held, Writable}
-use Rattle.format.specs.Writes.{normal, resting, fresh_rests, ending, ending_means, ending_rests, declared, starts, over-is}
+use Rattle.format.specs.Writes.{normal, resting, fresh_rests, ending, ending_rests, declared, starts}
+use Rattle.format.proofs.Writes.{ending_means, over-is}
 use Rattle.least.specs.Sound.{tree_size}
-use Rattle.least.specs.Smallest.{smallest}
+use Rattle.least.proofs.Smallest.{smallest}
 use Rattle.least.specs.Sized.{InWords}
 use Rattle.least.specs.Logged.{told_fit, logged_reads}
 use Rattle.claims.specs.Row.{Lends, Step, finished, renewed, took_all, events_in, all_under, Accepted, Row}

@@ -1,10 +1,10 @@
 -- The writer in the midst of a geometry: what is pending is the coordinates and ends so far.
-use Rattle.std.specs.Prelude.{◌≡◌, Bool, true, false, cond, List, [], ◌∷◌, ◌++◌, map, ℕ, ◌+◌, length, ltb, eqb}
+use Rattle.std.specs.Prelude.{◌≡◌, Bool, true, false, cond, List, [], ◌∷◌, ◌++◌, ℕ, ◌+◌, ltb}
 use Rattle.std.proofs.Math.Path.{refl}
-use Rattle.std.proofs.Common.{sym, ◌∙◌, append_assoc, append-nil, length-append}
+use Rattle.std.proofs.Common.{sym, ◌∙◌, append_assoc, append-nil}
 use Rattle.std.proofs.Math.Option.{Option, none, some}
 use Rattle.laws.specs.Every.{never, neither}
-use Rattle.kinds.specs.Event.{is_tagged_type, bit_set, begin_e, end_e, xy_e, coordinate_e}
+use Rattle.kinds.specs.Event.{is_tagged_type, bit_set, begin_e, xy_e, coordinate_e}
 use Rattle.kinds.specs.declared.event.Event.{Event}
 use Rattle.kinds.specs.declared.flags.Flags.{Flags}
 use Rattle.store.specs.Lists.{Rec}
@@ -12,13 +12,13 @@ use Rattle.geometries.specs.Coordinate.{multi, is, or0, bits, coord_e}
 use Rattle.asking.specs.declared.typing.Typing.{Typing}
 use Rattle.asking.specs.SetType.{typing}
 use Rattle.asking.specs.Ask.{begun}
-use Rattle.writer_model.specs.Writer.{Writer, pushed, part_of, finish_part, coordinate, end_pushed, line_end, polygon_end, after, after_all}
-use Rattle.geometries.specs.Geometry.{Coord, Line, Rings}
-use Rattle.geometries.specs.Events.{shown, each, group, seen_as, coord_of, line_of, triangle_of}
-use Rattle.format.specs.Format.{xy_of, joined, ends_from}
-use Rattle.format.specs.FormatLaws.{xy_append, half}
-use Rattle.format.specs.Writable.{All, Has, HasRings}
-use Rattle.format.specs.Tables.{listed, vals, table_of, rings_table, is_none}
+use Rattle.writer_model.specs.Writer.{Writer, pushed, coordinate, after, after_all}
+use Rattle.geometries.specs.Geometry.{Coord}
+use Rattle.geometries.specs.Events.{shown, each, seen_as, coord_of}
+use Rattle.format.specs.Format.{xy_of}
+use Rattle.format.specs.FormatLaws.{xy_append}
+use Rattle.format.specs.Writable.{All, Has}
+use Rattle.format.specs.Tables.{listed, vals, is_none}
 
 vals_snoc : (f : Coord → Option ℕ) (cs : List Coord) (c : Coord) → vals f (cs ++ (c ∷ [])) ≡ vals f cs ++ listed (f c)
 vals_snoc f [] c = append-nil (listed (f c))
@@ -102,34 +102,3 @@ module _ (F : Flags) (h : Typing) where
   pub on_begin : (type : ℕ) (cs : List Coord) (es : List ℕ) (parts : List Rec) (n i : ℕ) → is_tagged_type type ≡ true → ltb type 32 ≡ true → after (amid h cs es parts) (begin_e type false n i) ≡ amid h cs es parts
   unfolding after amid begin_e begun
   on_begin type cs es parts n i e b = rw (b, e)
-
-  module _ (plain : eqb h.mode 1 ≡ false) where
-    on_line_end : (cs : List Coord) (es : List ℕ) (parts : List Rec) (i : ℕ) → after (amid h cs es parts) (end_e 2 false i) ≡ amid h cs (es ++ (length cs ∷ [])) parts
-    unfolding after amid end_e line_end end_pushed
-    on_line_end cs es parts i = rw (plain, half)
-
-    on_line : (l cs : List Coord) (es : List ℕ) (parts : List Rec) (i : ℕ) (k : List Event) → All (Has F) l → after_all (amid h cs es parts) (line_of F l i k) ≡ after_all (amid h (cs ++ l) (es ++ (length (cs ++ l) ∷ [])) parts) k
-    on_line l cs es parts i k q = rw (all_cons, on_begin 2 cs es parts (length l) i refl refl, on_coords cs l es parts 0 _ q, all_cons, on_line_end)
-
-    pub on_lines : (ls : List Line) (cs : List Coord) (es : List ℕ) (parts : List Rec) (i : ℕ) (k : List Event) → All (All (Has F)) ls → after_all (amid h cs es parts) (each (line_of F) ls i k) ≡ after_all (amid h (cs ++ joined ls) (es ++ ends_from (length cs) ls) parts) k
-    on_lines [] cs es parts i k q = rw (append-nil cs, append-nil es)
-    on_lines (l ∷ ls) cs es parts i k q = rw (on_line l cs es parts i _ q.0, on_lines ls (cs ++ l) (es ++ (length (cs ++ l) ∷ [])) parts (i + 1) k q.1) (simp (append_assoc, length-append))
-
-    on_triangle_end : (cs : List Coord) (es : List ℕ) (parts : List Rec) (i : ℕ) → after (amid h cs es parts) (end_e 17 false i) ≡ amid h cs es parts
-    unfolding after amid end_e
-    on_triangle_end cs es parts i = refl
-
-    pub on_triangles : (ls : List Line) (cs : List Coord) (es : List ℕ) (parts : List Rec) (i : ℕ) (k : List Event) → All (All (Has F)) ls → after_all (amid h cs es parts) (each (triangle_of F false) ls i k) ≡ after_all (amid h (cs ++ joined ls) (es ++ ends_from (length cs) ls) parts) k
-    on_triangles [] cs es parts i k q = rw (append-nil cs, append-nil es)
-    on_triangles (l ∷ ls) cs es parts i k q =
-        rw (all_cons, on_begin 17 cs es parts 1 i refl refl, on_line l cs es parts 0 _ q.0, all_cons, on_triangle_end, on_triangles ls (cs ++ l) (es ++ (length (cs ++ l) ∷ [])) parts (i + 1) k q.1)
-        (simp (append_assoc, length-append))
-
-    on_polygon_end : (cs : List Coord) (es : List ℕ) (parts : List Rec) (i : ℕ) → after (amid h cs es parts) (end_e 3 false i) ≡ amid h [] [] (parts ++ (table_of h.current cs es ∷ []))
-    unfolding after amid end_e polygon_end finish_part part_of table_of
-    on_polygon_end cs es parts i = refl
-
-    pub on_polygons : (ps : List Rings) (parts : List Rec) (i : ℕ) (k : List Event) → All (HasRings F) ps → after_all (amid h [] [] parts) (each (group 3 false (line_of F)) ps i k) ≡ after_all (amid h [] [] (parts ++ map (rings_table h.current) ps)) k
-    on_polygons [] parts i k q = rw append-nil
-    on_polygons (p ∷ ps) parts i k q =
-        rw (all_cons, on_begin 3 [] [] parts (length p) i refl refl, on_lines p [] [] parts 0 _ q.0.1, all_cons, on_polygon_end, on_polygons ps (parts ++ (rings_table h.current p ∷ [])) (i + 1) k q.1, append_assoc)

@@ -9,12 +9,12 @@ use Rattle.kinds.specs.Event.{begin_e, end_e, xy_e}
 use Rattle.kinds.specs.declared.event.Event.{Event}
 use Rattle.kinds.specs.declared.flags.Flags.{Flags}
 use Rattle.store.specs.Lists.{Rec}
-use Rattle.geometries.specs.Geometry.{Segment, straight, arc, compound, Surface, flat, curved, Simple, point, line_string, polygon, multi_line_string, multi_curve, multi_surface, triangle}
+use Rattle.geometries.specs.Geometry.{Segment, straight, arc, compound, Surface, flat, curved, Simple, point, line_string, multi_curve, multi_surface, triangle}
 use Rattle.geometries.specs.Events.{simple_of, events_of}
 use Rattle.format.specs.Format.{IsSegment, IsSurface, Is, Tree}
 use Rattle.geometries.specs.Told.{told}
-use Rattle.format.specs.Once.{OfType, of_point, of_line, of_polygon, of_lines, of_compound, of_surfaces, of_tin, of_triangle}
-use Rattle.format.specs.NoMeaning.{Meaningless, meaningless, ends-count, heights-count, only_part}
+use Rattle.format.specs.Once.{OfType, of_point, of_line, of_lines, of_compound, of_surfaces, of_tin, of_triangle}
+use Rattle.format.specs.NoMeaning.{Meaningless, meaningless, heights-count, only_part}
 use Rattle.format.specs.Cases.{plain, high, here, there, raised, table, heights, empty, read_under}
 
 -- ---- read, and meaning nothing
@@ -54,28 +54,6 @@ tin_without_xy = record { read = refl; no_meaning = meaningless (empty 16 none) 
   where
     go : (s : Simple) → OfType 16 s → Is (get_elem? (empty 16 none ∷ [])) (empty 16 none) s → ⊥
     go s (of_tin ts) h = let e = h.coords.xy in never (cc)
-
--- pairs after the last end are not looked at
-abbrev past_end : Rec
-past_end = table 5 (1 ∷ 2 ∷ 3 ∷ 4 ∷ []) (some (0 ∷ 1 ∷ []))
-
-pub past_end_lem : Stray plain (past_end ∷ []) 5 (events_of plain 0 (multi_line_string ([] ∷ (here ∷ []) ∷ [])))
-unfolding read_under events_of
-past_end_lem = record { read = refl; no_meaning = meaningless past_end [] 5 refl refl go }
-  where
-    go : (s : Simple) → OfType 5 s → Is (get_elem? (past_end ∷ [])) past_end s → ⊥
-    go s (of_lines ls) h = omega (arith, ends-count past_end ls (1 ∷ 2 ∷ 3 ∷ 4 ∷ []) 0 (1 ∷ []) refl refl h)
-
--- nor is an only end
-abbrev one_end : Rec
-one_end = table 3 (1 ∷ 2 ∷ []) (some (7 ∷ []))
-
-pub one_end_lem : Stray plain (one_end ∷ []) 3 (events_of plain 0 (polygon ((here ∷ []) ∷ [])))
-unfolding read_under events_of
-one_end_lem = record { read = refl; no_meaning = meaningless one_end [] 3 refl refl go }
-  where
-    go : (s : Simple) → OfType 3 s → Is (get_elem? (one_end ∷ [])) one_end s → ⊥
-    go s (of_polygon ls) h = omega (arith, ends-count one_end ls (1 ∷ 2 ∷ []) 7 [] refl refl h)
 
 -- a Triangle of two ends is two triangles
 abbrev two_ends : Rec

@@ -1,8 +1,6 @@
 pub mod Format
 pub mod FormatLaws
-pub mod ReadsLines
 pub mod Reads
-pub mod ReadsCall
 pub mod Once
 pub mod Writable
 pub mod Tables
@@ -13,7 +11,6 @@ pub mod Collections
 pub mod Rows
 pub mod Accepted
 pub mod RoundTrip
-pub mod RowExamples
 pub mod NoMeaning
 pub mod Cases
 pub mod DifferencesWritten

@@ -1,20 +1,15 @@
 -- Trees that mean nothing.
-use Rattle.std.specs.Prelude.{◌≡◌, true, false, List, [], ◌∷◌, map, ℕ, zero, suc, ◌+◌, ◌*◌, ◌≤◌, length, eqb}
-use Rattle.std.proofs.Common.{sym, ap, ◌∙◌, subst, arith, length-append}
+use Rattle.std.specs.Prelude.{◌≡◌, false, List, [], ◌∷◌, map, ℕ, zero, suc, ◌*◌, length, eqb}
+use Rattle.std.proofs.Common.{sym, ap, ◌∙◌, subst, arith}
 use Rattle.std.proofs.Math.Option.{Option, some}
 use Rattle.std.proofs.Math.ListN.{get_elem?}
 use Rattle.std.proofs.lemmas.List.{length-map}
 use Rattle.std.proofs.lemmas.Bool.{eqb-false}
 use Rattle.laws.specs.Script.{Script, stop, say}
-use Rattle.kinds.specs.declared.flags.Flags.{Flags}
 use Rattle.store.specs.Lists.{Rec}
-use Rattle.reader.specs.Reading.{read_s}
-use Rattle.geometries.specs.Geometry.{Coord, Line, Simple, simple, collection, Geometry, depth}
-use Rattle.geometries.specs.Events.{events_of}
-use Rattle.format.specs.Format.{xy_of, joined, ends_from, Coords, Lines, Each, Parts, Is, Means, Tree}
+use Rattle.geometries.specs.Geometry.{Coord, Simple, simple, collection, Geometry}
+use Rattle.format.specs.Format.{xy_of, Coords, Each, Parts, Is, Means, Tree}
 use Rattle.format.specs.FormatLaws.{xy_length}
-use Rattle.geometries.specs.Told.{told}
-use Rattle.format.specs.Reads.{AllSmall, agrees, reads}
 use Rattle.format.specs.Once.{OfType, as_type}
 
 -- ---- what the reader refuses means nothing, but for what `agrees` and the levels ask
@@ -22,13 +17,6 @@ abbrev pub Refused : {A : Type 0} → Script A → Type 0
 Refused (stop zero) = ⊥
 Refused (stop (suc c)) = Unit {0}
 Refused (say a s) = Refused s
-
-told_whole : {A : Type 0} (l : List A) → Refused (told l) → ⊥
-told_whole [] r = r
-told_whole (a ∷ l) r = told_whole l r
-
-pub refused_meaningless : (F : Flags) (get : ℕ → Option Rec) → AllSmall get → (n type : ℕ) (g : Geometry n) (t : Tree get n type g) → agrees type t.root.kind ≡ true → depth n g ≤ 15 → Refused (read_s F get type) → ⊥
-refused_meaningless F get small n type g t a d r = told_whole (events_of F n g) (rw (reads F get small n type g t a d) at r)
 
 -- ---- a tree of a type that is no collection's: no geometry of the type is its root
 abbrev pub Meaningless : List Rec → ℕ → Type 0
@@ -54,17 +42,6 @@ module _ (r : Rec) (rest : List Rec) (type : ℕ) (known : eqb type 0 ≡ false)
 abbrev pub last_end : ℕ → List ℕ → ℕ
 last_end n [] = n
 last_end n (e ∷ es) = last_end e es
-
-last_end_lem : (n : ℕ) (ls : List Line) → last_end n (ends_from n ls) ≡ n + length (joined ls)
-last_end_lem n [] = omega arith
-last_end_lem n (l ∷ ls) = last_end_lem (n + length l) ls ∙ omega (arith, length-append l (joined ls))
-
-pub ends-count : (r : Rec) (ls : List Line) (xy : List ℕ) (e : ℕ) (es : List ℕ) → r.xy ≡ some xy → r.ends ≡ some (e ∷ es) → Lines r ls → length xy ≡ 2 * last_end e es
-ends-count r ls xy e es a b h =
-    let q : some xy ≡ some (xy_of (joined ls)) = sym a ∙ h.coords.xy in
-    let p : xy ≡ xy_of (joined ls) = cc in
-    let f : e ∷ es ≡ ends_from 0 ls = rw b at h.ends in
-    omega (arith, ap (λ (l : List ℕ). length l) p, xy_length (joined ls), ap (λ (l : List ℕ). last_end 0 l) f, last_end_lem 0 ls)
 
 -- a height for each coordinate
 pub heights-count : (r : Rec) (cs : List Coord) (xy zs : List ℕ) → r.xy ≡ some xy → r.z ≡ some zs → Coords r cs → length xy ≡ 2 * length zs

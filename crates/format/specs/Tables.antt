@@ -9,13 +9,11 @@ use Rattle.laws.specs.Every.{never}
 use Rattle.kinds.specs.declared.flags.Flags.{Flags}
 use Rattle.store.specs.Lists.{Rec}
 use Rattle.geometries.specs.Coordinate.{is}
-use Rattle.lines.specs.Lines.{or_none}
 use Rattle.writer_model.specs.Writer.{longer}
 use Rattle.writer_model.specs.Tree.{Holds}
 use Rattle.geometries.specs.Geometry.{Coord, Line, Rings}
-use Rattle.format.specs.Format.{xy_of, values_of, ByCoord, Coords, joined, ends_from, Ends, Lines, Each}
-use Rattle.format.specs.FormatLaws.{ends-length}
-use Rattle.format.specs.Writable.{All, Some, Has, HasRings}
+use Rattle.format.specs.Format.{xy_of, values_of, ByCoord, Coords, joined, ends_from, Each}
+use Rattle.format.specs.Writable.{All, Has}
 
 -- ---- the values that coordinates have
 abbrev pub listed : Option ℕ → List ℕ
@@ -93,15 +91,6 @@ module _ (F : Flags) (type : ℕ) where
     t = lane_kept F.t (λ c. c.t) cs (all_map (Has F) _ (λ c h. h.t) cs q);
     tm = lane_kept F.tm (λ c. c.tm) cs (all_map (Has F) _ (λ c h. h.tm) cs q);
   }
-
-  table-ends : (ls : List Line) → Some ls → Ends (or_none (longer 1 (ends_from 0 ls))) ls
-  unfolding longer
-  table-ends [] q = absurd q
-  table-ends (l ∷ []) q = refl
-  table-ends (l ∷ l' ∷ ls) q = rw (lt-leb (length (ends_from 0 (l ∷ l' ∷ ls))) 1 (omega (arith, ends-length 0 (l ∷ l' ∷ ls)))) refl
-
-  pub table-lines : (ls : List Line) → HasRings F ls → Lines (rings_table type ls) ls
-  table-lines ls q = record { coords = table_coords (joined ls) (ends_from 0 ls) (all-joined (Has F) ls q.1); ends = unfold table_of in table-ends ls q.0 }
 
 -- parts that stand one after another
 pub parts_are : {A : Type 0} (M : Rec → A → Type 0) (P : A → Type 0) (table : A → Rec) → ((a : A) → P a → M (table a) a) → (get : ℕ → Option Rec) (xs : List A) (n : ℕ) → All P xs → Holds get n (map table xs) → Each get M n xs

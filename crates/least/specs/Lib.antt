@@ -8,11 +8,8 @@ pub mod Values
 pub mod Pairs
 pub mod Lines
 pub mod Sums
-pub mod Root
 pub mod Below
 pub mod Above
-pub mod Written
-pub mod Smallest
 pub mod Logged
 pub mod Fits
 pub mod OwnFits

@@ -16,10 +16,10 @@ use Rattle.format.specs.Writable.{Held, Writable}
 use Rattle.format.specs.Writes.{ending}
 use Rattle.least.specs.Size.{size_of, Sound}
 use Rattle.least.specs.Least.{least_of}
-use Rattle.least.specs.Root.{of_root, some-event}
+use Rattle.least.proofs.Root.{of_root, some-event}
 use Rattle.least.specs.Below.{size_least}
 use Rattle.least.specs.Sound.{tree_size, table_sound}
-use Rattle.least.specs.Written.{written_least}
+use Rattle.least.proofs.Written.{written_least}
 
 module _ (F : Flags) (s : Simple) where
   -- by whatever accessor of records

@@ -9,7 +9,8 @@ use Rattle.format.specs.Writes.{unknown}
 use Rattle.format.specs.Promoted.{line}
 use Rattle.format.specs.Collections.{a_point, a_line, a_triangle, Elements, more, declared}
 use Rattle.format.specs.Rows.{Row, itself, multi, together}
-use Rattle.format.specs.RoundTrip.{EachReads, round_trip}
+use Rattle.format.specs.RoundTrip.{EachReads}
+use Rattle.format.proofs.RoundTrip.{round_trip}
 
 abbrev high : Flags
 high = record { z = true; m = false; t = false; tm = false }

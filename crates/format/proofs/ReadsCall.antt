@@ -21,7 +21,8 @@ use Rattle.geometries.specs.Geometry.{Geometry, depth}
 use Rattle.geometries.specs.Events.{events_of}
 use Rattle.format.specs.Format.{Tree}
 use Rattle.geometries.specs.Told.{told, Complete, said_complete}
-use Rattle.format.specs.Reads.{Small, AllSmall, agrees, reads}
+use Rattle.format.specs.Reads.{Small, AllSmall, agrees}
+use Rattle.format.proofs.ReadLaws.{reads}
 
 module _ (table : List ℕ) (P : Pools) where
   stretch_small : (s : Span) → InPool s (length P.xy) 131072 → length (or_none (list_of P.xy s)) ≤ 131072

@@ -1,0 +1,13 @@
+pub mod ReadsLines
+pub mod ReadLaws
+pub mod ReadsCall
+pub mod Once
+pub mod Tables
+pub mod Amid
+pub mod Writes
+pub mod Promoted
+pub mod Rows
+pub mod RoundTrip
+pub mod RowExamples
+pub mod NoMeaning
+pub mod DifferencesRead

@@ -1,0 +1,4 @@
+pub mod Root
+pub mod Written
+pub mod Smallest
+pub mod Logged
