@@ -1,7 +1,7 @@
 -- What is written in a row is read back: by way of the format.
 use Rattle.std.specs.Prelude.{◌≡◌, Bool, true, false, cond, ◌||◌, List, [], ◌∷◌, ℕ, ◌≤◌, length, eqb}
 use Rattle.std.proofs.Math.Path.{refl}
-use Rattle.std.proofs.Math.Option.{Option, none}
+use Rattle.std.proofs.Math.Option.{Option}
 use Rattle.std.proofs.Common.{arith, eqb-true}
 use Rattle.laws.specs.Every.{never}
 use Rattle.laws.specs.Cut.{room_of, Said}

@@ -10,8 +10,6 @@ use Rattle.kinds.specs.declared.event.Event.{Event}
 use Rattle.kinds.specs.declared.flags.Flags.{Flags}
 use Rattle.store.specs.Lists.{Rec}
 use Rattle.asking.specs.declared.typing.Typing.{Typing}
-use Rattle.asking.specs.SetType.{typing}
-use Rattle.asking.specs.Ask.{begun}
 use Rattle.writer_model.specs.Writer.{Writer, part_of, line_end, polygon_end, after, after_all, tree}
 use Rattle.writer_model.specs.Tree.{Holds}
 use Rattle.geometries.specs.Geometry.{Line, Coord, Simple, type_of}
@@ -22,7 +20,7 @@ use Rattle.format.specs.Tables.{table_of, rings_table, root_table, table_coords,
 use Rattle.format.proofs.Tables.{table-lines}
 use Rattle.format.specs.Amid.{amid, all_nil, all_cons, on_coords}
 use Rattle.format.proofs.Amid.{on_lines, on_triangles, on_polygons}
-use Rattle.format.specs.Writes.{normal, resting, ending, ending-typing, parts-root, Starts, then_declared, starts, declared}
+use Rattle.format.specs.Writes.{normal, resting, ending, ending-typing, parts-root, Starts, then_declared, starts}
 
 some-map : {A B : Type 0} (f : A → B) (xs : List A) → Some xs → Some (map f xs)
 some-map f [] s = s

@@ -10,7 +10,6 @@ use Rattle.kinds.specs.declared.flags.Flags.{Flags}
 use Rattle.store.specs.Lists.{Rec}
 use Rattle.geometries.specs.Coordinate.{multi, is, or0, bits, coord_e}
 use Rattle.asking.specs.declared.typing.Typing.{Typing}
-use Rattle.asking.specs.SetType.{typing}
 use Rattle.asking.specs.Ask.{begun}
 use Rattle.writer_model.specs.Writer.{Writer, pushed, coordinate, after, after_all}
 use Rattle.geometries.specs.Geometry.{Coord}

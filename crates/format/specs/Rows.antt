@@ -11,7 +11,7 @@ use Rattle.format.specs.Format.{Tree}
 use Rattle.format.specs.Writable.{Some, Held, Writable}
 use Rattle.format.specs.Writes.{then_declared, Starts}
 use Rattle.format.specs.Promoted.{Lifts, declaring}
-use Rattle.format.specs.Collections.{Elements, Collects, declared}
+use Rattle.format.specs.Collections.{Elements, Collects}
 
 -- what a writer, with d declared, keeps of a geometry: itself; of a LineString or Polygon that is promoted, the multi of that one
 pub data Keeps (F : Flags) (d : ℕ) (detect promote : Bool) : Geometry 1 → Geometry 1 → Type 0 where
