@@ -4,8 +4,6 @@ use Rattle.bintolage.specs.CallLaws.{count_most}
 use borrow.Author.Rules.{rules}
 use Rattle.bintolage.proofs.bintolage_read.Goals as goal
 
-
-
 pub overflow_cast-count : goal.overflow_cast-count
 overflow_cast-count c = omega (arith, count_most (events _) _ _ c.read-read.ensures)
 

@@ -7,8 +7,6 @@ use Rattle.bintolage.specs.CallLaws.{count_most, stop_byte}
 use borrow.Author.Rules.{rules}
 use Rattle.bintolage.proofs.bintolage_read_properties.Goals as goal
 
-
-
 pub overflow_cast-count : goal.overflow_cast-count
 overflow_cast-count c = omega (arith, count_most values _ _ (said values c.read_properties-read.ensures.log_value))
 
