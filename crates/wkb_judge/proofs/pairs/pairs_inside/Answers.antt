@@ -18,6 +18,10 @@ use Rattle.wkb_judge.proofs.pairs.pairs_inside.Goals as goal
 there : (n from last idx next : ℕ) → from ≤ n → last ≤ n - from → idx < last → next ≡ from + idx → next < n
 there n from last idx next a b c d = omega arith
 
+-- ---- nothing before it is past the end
+within : (n from last idx next : ℕ) → from ≤ n → last ≤ n - from → idx ≤ last → next ≡ from + idx → next ≤ n
+within n from last idx next a b c d = omega arith
+
 pub returns-then-not-takes_pair : goal.returns-then-not-takes_pair
 returns-then-not-takes_pair c = none_inside c.requires
 
@@ -28,10 +32,10 @@ pub loop-idx-init : goal.loop-idx-init
 loop-idx-init c = let a = c.args in (no_pairs a.events.now a.from a.feature, omega arith, omega arith)
 
 pub overflow_mul-begin : goal.overflow_mul-begin
-overflow_mul-begin c = omega (arith, there (length c.args.events.now / 64) c.args.from c.lesser-last.result c.loop-idx.idx c.loop-idx.next c.requires c.lesser-last.ensures.0 c.loop-idx-test.true c.loop-idx.invariant.1)
+overflow_mul-begin c = omega (arith, within (length c.args.events.now / 64) c.args.from c.lesser-last.result c.loop-idx.idx c.loop-idx.next c.requires c.lesser-last.ensures.0 (omega (arith, c.loop-idx-test.true)) c.loop-idx.invariant.1)
 
 pub overflow_add-end : goal.overflow_add-end
-overflow_add-end c = omega (arith, there (length c.args.events.now / 64) c.args.from c.lesser-last.result c.loop-idx.idx c.loop-idx.next c.requires c.lesser-last.ensures.0 c.loop-idx-test.true c.loop-idx.invariant.1)
+overflow_add-end c = omega (arith, within (length c.args.events.now / 64) c.args.from c.lesser-last.result c.loop-idx.idx c.loop-idx.next c.requires c.lesser-last.ensures.0 (omega (arith, c.loop-idx-test.true)) c.loop-idx.invariant.1)
 
 pub slice_bounds-is_pair-count : goal.slice_bounds-is_pair-count
 slice_bounds-is_pair-count c = omega arith
@@ -46,7 +50,7 @@ pub is_pair-requires : goal.is_pair-requires
 is_pair-requires c = part_long c.args.events.now c.loop-idx.next (there (length c.args.events.now / 64) c.args.from c.lesser-last.result c.loop-idx.idx c.loop-idx.next c.requires c.lesser-last.ensures.0 c.loop-idx-test.true c.loop-idx.invariant.1)
 
 pub overflow_add-next : goal.overflow_add-next
-overflow_add-next c = omega (arith, there (length c.args.events.now / 64) c.args.from c.lesser-last.result c.loop-idx.idx c.loop-idx.next c.requires c.lesser-last.ensures.0 c.loop-idx-test.true c.loop-idx.invariant.1)
+overflow_add-next c = omega (arith, within (length c.args.events.now / 64) c.args.from c.lesser-last.result c.loop-idx.idx c.loop-idx.next c.requires c.lesser-last.ensures.0 (omega (arith, c.loop-idx-test.true)) c.loop-idx.invariant.1)
 
 pub overflow_add-idx : goal.overflow_add-idx
 overflow_add-idx c = omega (arith, c.loop-idx-test.true)
