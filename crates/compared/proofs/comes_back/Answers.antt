@@ -1,6 +1,5 @@
 use Prim.Native.Nat.{◌*◌, ◌-◌}
 use native.Mathlib.Omega.{arith}
-use borrow.Author.Rules.{rules}
 use Rattle.compared.specs.ComparedLaws.{never, as_given}
 use Rattle.compared.proofs.comes_back.Goals as goal
 
