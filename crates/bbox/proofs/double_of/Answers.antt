@@ -1,5 +1,4 @@
 use mathlib.Core.Path.{sym, ◌∙◌}
-use borrow.Author.Rules.{rules}
 use Rattle.bbox.specs.Doubles.{nan_of, zero_by_zero}
 use Rattle.bbox.proofs.double_of.Goals as goal
 

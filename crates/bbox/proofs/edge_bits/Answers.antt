@@ -1,6 +1,5 @@
 use mathlib.Core.Path.{sym, ap}
 use lib.Ieee.{to_bits}
-use borrow.Author.Rules.{rules}
 use Rattle.bbox.specs.Box.{bits_of}
 use Rattle.bbox.specs.Doubles.{self_number, self_nan}
 use Rattle.bbox.proofs.edge_bits.Goals as goal

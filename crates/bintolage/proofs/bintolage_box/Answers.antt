@@ -1,7 +1,6 @@
 use mathlib.Core.Path.{ap, ◌∙◌}
 use Rattle.record_box.specs.declared.Boxed.{Boxed}
 use Rattle.bbox.specs.Edges.{edges_of}
-use borrow.Author.Rules.{rules}
 use Rattle.bintolage.proofs.bintolage_box.Goals as goal
 
 pub returns : goal.returns

@@ -1,8 +1,7 @@
 use Rattle.writing.specs.declared.state.State.{State}
-use Rattle.writing.specs.State.{Mem, mem_of}
+use Rattle.writing.specs.State.{mem_of}
 use Rattle.writing.specs.Calls.{event_call}
 use Rattle.bintolage.specs.CallLaws.{look-heard, pair_whole, kept_call}
-use borrow.Author.Rules.{rules}
 use Rattle.bintolage.proofs.bintolage_event.Goals as goal
 
 pub feature_in-n-requires : goal.feature_in-n-requires

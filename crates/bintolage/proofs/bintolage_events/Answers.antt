@@ -1,8 +1,7 @@
 use Rattle.writing.specs.declared.state.State.{State}
-use Rattle.writing.specs.State.{Mem, mem_of}
+use Rattle.writing.specs.State.{mem_of}
 use Rattle.runs.specs.Events.{events_call}
 use Rattle.bintolage.specs.CallLaws.{taken_call}
-use borrow.Author.Rules.{rules}
 use Rattle.bintolage.proofs.bintolage_events.Goals as goal
 
 pub returns : goal.returns

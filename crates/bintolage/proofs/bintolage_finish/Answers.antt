@@ -1,8 +1,7 @@
 use Rattle.writing.specs.declared.state.State.{State}
-use Rattle.writing.specs.State.{Mem, mem_of}
+use Rattle.writing.specs.State.{mem_of}
 use Rattle.writing.specs.Calls.{finish_call}
 use Rattle.bintolage.specs.CallLaws.{kept_call}
-use borrow.Author.Rules.{rules}
 use Rattle.bintolage.proofs.bintolage_finish.Goals as goal
 
 pub returns : goal.returns

@@ -1,7 +1,6 @@
 use native.Mathlib.Omega.{arith}
 use Rattle.event_log.specs.Log.{events}
 use Rattle.bintolage.specs.CallLaws.{count_most}
-use borrow.Author.Rules.{rules}
 use Rattle.bintolage.proofs.bintolage_read.Goals as goal
 
 pub overflow_cast-count : goal.overflow_cast-count

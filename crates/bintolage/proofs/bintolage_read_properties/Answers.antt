@@ -4,7 +4,6 @@ use Rattle.laws.specs.Cut.{said}
 use Rattle.event_log.specs.Values.{values}
 use Rattle.bintolage.specs.Calls.{one}
 use Rattle.bintolage.specs.CallLaws.{count_most, stop_byte}
-use borrow.Author.Rules.{rules}
 use Rattle.bintolage.proofs.bintolage_read_properties.Goals as goal
 
 pub overflow_cast-count : goal.overflow_cast-count

@@ -1,5 +1,4 @@
 use mathlib.Core.Path.{ap, ◌∙◌}
-use borrow.Author.Rules.{rules}
 use Rattle.as_words.specs.Words.{words_of}
 use Rattle.bintolage.proofs.bintolage_start.Goals as goal
 

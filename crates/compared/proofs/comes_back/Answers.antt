@@ -1,11 +1,10 @@
 use Prim.Native.Nat.{◌*◌, ◌-◌}
 use native.Mathlib.Omega.{arith}
-use borrow.Author.Rules.{rules}
 use Rattle.compared.specs.ComparedLaws.{never, as_given}
 use Rattle.compared.proofs.comes_back.Goals as goal
 
 pub returns-then-count-events : goal.returns-then-count-events
-returns-then-count-events c = never (λ g. c.if-count-events.true g.as_many)
+returns-then-count-events c = never (λ g. omega (arith, c.if-count-events.true, g.as_many))
 
 pub returns-then-events-sent : goal.returns-then-events-sent
 returns-then-events-sent c = never (λ g. omega (arith, g.given))

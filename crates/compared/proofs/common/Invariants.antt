@@ -1,8 +1,6 @@
-use mathlib.Core.Path.{◌≡◌, refl}
+use mathlib.Core.Path.{◌≡◌}
 use Prim.Native.Nat.{◌-◌, ◌≤◌}
-use native.Mathlib.Omega.{arith}
 use lib.ListN.{length, take}
-use Rattle.compared.specs.ComparedLaws.{one_more_lem}
 use Rattle.compared.proofs.common.Given as goal
 
 abbrev pub invariant-loop-i : goal.invariant-loop-i

@@ -1,4 +1,3 @@
-use borrow.Author.Rules.{rules}
 use Rattle.compared.specs.ComparedLaws.{equal_rows}
 use Rattle.compared.proofs.same.Goals as goal
 

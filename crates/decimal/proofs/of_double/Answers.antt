@@ -1,5 +1,3 @@
-use native.Mathlib.Omega.{arith}
-use borrow.Author.Rules.{rules}
 use borrow.Author.Tests.{eq-eqb, ne_eqb}
 use Rattle.laws.specs.Cond.{if_so, if_not}
 use Rattle.decimal.specs.Magnitude.{magnitude, of_double}

@@ -1,10 +1,9 @@
-use mathlib.Core.Path.{◌≡◌, refl, sym, ap, ◌∙◌}
+use mathlib.Core.Path.{refl, sym, ap, ◌∙◌}
 use mathlib.Core.Bool.{true, cond}
-use mathlib.Core.List.{[], ◌∷◌}
+use mathlib.Core.List.{◌∷◌}
 use native.Mathlib.Omega.{arith}
 use lib.ListN.{length}
 use lib.Seq.{sets}
-use borrow.Author.Rules.{rules}
 use borrow.Author.Tests.{eq-eqb, ne_eqb}
 use Rattle.laws.specs.Cond.{if_so, if_not}
 use Rattle.kinds.specs.Lanes.{endsL}
@@ -12,9 +11,9 @@ use Rattle.store.specs.Records.{records_lent}
 use Rattle.asking.specs.declared.ask.Ask.{Ask}
 use Rattle.writing.specs.declared.state.Wrote.{Wrote}
 use Rattle.pending.specs.Words.{used}
-use Rattle.asking.specs.Ask.{ask_of, other_adds}
+use Rattle.asking.specs.Ask.{other_adds}
 use Rattle.writing.specs.Calls.{gives, table_after}
-use Rattle.writing.specs.Other.{other_room, decide_other, other_accepted, other-end, other_part, other_fits}
+use Rattle.writing.specs.Other.{decide_other, other_accepted, other-end, other_part, other_fits}
 use Rattle.frames.proofs.take_other.Goals as goal
 
 pub decide_other-taken-requires : goal.decide_other-taken-requires

@@ -1,6 +1,4 @@
 use native.Mathlib.Omega.{arith}
-use Prim.Native.Nat.{◌≤◌}
-use borrow.Author.Rules.{rules}
 use Rattle.job.proofs.run.Goals as goal
 
 pub left-turns-requires : goal.left-turns-requires

@@ -1,7 +1,6 @@
 use Rattle.laws.specs.Framed.{no_begin, no_body, to_end}
 use Rattle.event_log.specs.Log.{events}
 use Rattle.lone_ring.specs.Lone.{lone_line}
-use borrow.Author.Rules.{rules}
 use Rattle.lone_ring.proofs.read_lone_line.Goals as goal
 
 pub returns-then-b-ne-DONE : goal.returns-then-b-ne-DONE

@@ -1,11 +1,8 @@
 use borrow.Author.Rules.{rules}
-use mathlib.Core.Path.{◌≡◌, refl}
-use Prim.Native.Nat.{◌*◌, ◌-◌, ◌≤◌}
-use lib.ListN.{length, drop}
-use Rattle.laws.specs.Script.{run}
+use mathlib.Core.Path.{refl}
 use Rattle.laws.specs.Framed.{went_on, broke_off, ended}
 use Rattle.event_log.specs.Log.{events}
-use Rattle.lone_ring.specs.Lone.{lone_s, lone_end, lone_odd, lone_next}
+use Rattle.lone_ring.specs.Lone.{lone_end, lone_odd, lone_next}
 use Rattle.lone_ring.proofs.read_lone_pairs.Goals as goal
 
 pub loop-i-init : goal.loop-i-init

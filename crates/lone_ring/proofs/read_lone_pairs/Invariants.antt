@@ -1,11 +1,9 @@
-use borrow.Author.Rules.{rules}
-use mathlib.Core.Path.{◌≡◌, refl}
+use mathlib.Core.Path.{◌≡◌}
 use Prim.Native.Nat.{◌*◌, ◌-◌, ◌≤◌}
 use lib.ListN.{length, drop}
 use Rattle.laws.specs.Script.{run}
-use Rattle.laws.specs.Framed.{went_on, broke_off, ended}
 use Rattle.event_log.specs.Log.{events}
-use Rattle.lone_ring.specs.Lone.{lone_s, lone_end, lone_odd, lone_next}
+use Rattle.lone_ring.specs.Lone.{lone_s}
 use Rattle.lone_ring.proofs.read_lone_pairs.Given as goal
 
 abbrev pub invariant-loop-i : goal.invariant-loop-i

@@ -1,10 +1,7 @@
-use mathlib.Core.Path.{◌≡◌, refl}
-use Prim.Native.Nat.{◌≤◌, ◌<◌, ◌-◌, ◌+◌}
-use native.Mathlib.Omega.{arith}
-use lib.ListN.{length, length-set}
-use borrow.Author.Rules.{rules}
+use mathlib.Core.Path.{◌≡◌}
+use Prim.Native.Nat.{◌≤◌, ◌-◌}
+use lib.ListN.{length}
 use Rattle.writing.specs.Calls.{moved}
-use Rattle.pools.specs.Move.{move_step}
 use Rattle.pools.proofs.move_words.Given as goal
 
 abbrev pub invariant-loop-i : goal.invariant-loop-i

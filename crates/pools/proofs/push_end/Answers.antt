@@ -1,5 +1,4 @@
 use native.Mathlib.Omega.{arith}
-use borrow.Author.Rules.{rules}
 use Rattle.pools.proofs.push_end.Goals as goal
 
 pub bounds-pool-at : goal.bounds-pool-at

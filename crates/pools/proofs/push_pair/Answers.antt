@@ -1,6 +1,5 @@
 use native.Mathlib.Omega.{arith}
 use lib.ListN.{length-set}
-use borrow.Author.Rules.{rules}
 use Rattle.laws.specs.Runs.{two}
 use Rattle.pending.specs.Words.{used as spec-used}
 use Rattle.pools.proofs.push_pair.Goals as goal

@@ -1,5 +1,4 @@
 use mathlib.Core.Path.{◌∙◌}
-use borrow.Author.Rules.{rules}
 use Rattle.pools.proofs.put_root.Goals as goal
 
 pub returns : goal.returns

@@ -1,9 +1,6 @@
 use mathlib.Core.Path.{sym, ◌∙◌}
-use Prim.Native.Nat.{◌-◌}
 use native.Mathlib.Omega.{arith}
-use lib.ListN.{length}
-use borrow.Author.Rules.{rules}
-use Rattle.property_reader.specs.ReadingSteps.{Going, begun, skipped_ahead, found_ahead, at-end, at_refused, at_not_utf8, at_skipped, at_full, at_last, at_next}
+use Rattle.property_reader.specs.ReadingSteps.{begun, skipped_ahead, found_ahead, at-end, at_refused, at_not_utf8, at_skipped, at_full, at_last, at_next}
 use Rattle.property_reader.proofs.read_all.Goals as goal
 
 pub loop-number-init : goal.loop-number-init

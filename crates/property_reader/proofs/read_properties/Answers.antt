@@ -2,7 +2,6 @@ use mathlib.Core.Bool.{not}
 use mathlib.Core.Path.{ap}
 use mathlib.Core.Path.{refl}
 use borrow.Author.Tests.{not-true, not-false}
-use borrow.Author.Rules.{rules}
 use Rattle.laws.specs.Script.{run}
 use Rattle.property_value.specs.Value.{placed}
 use Rattle.property_reader.specs.Reading.{on_bytes, says, stopped}

@@ -1,4 +1,3 @@
-use borrow.Author.Rules.{rules}
 use borrow.Author.Tests.{lt-leb}
 use Rattle.property_value.specs.Column.{is_text}
 use Rattle.property_value.specs.Value.{text_ok}

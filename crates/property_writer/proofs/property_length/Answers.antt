@@ -1,5 +1,4 @@
 use native.Mathlib.Omega.{arith}
-use borrow.Author.Rules.{rules}
 use borrow.Author.Tests.{le-leb, lt-leb}
 use Rattle.property_value.specs.ColumnLaws.{width_most}
 use Rattle.property_writer.specs.Writing.{property_length}

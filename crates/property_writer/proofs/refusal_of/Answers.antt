@@ -2,7 +2,6 @@ use mathlib.Core.Path.{◌≡◌, subst}
 use Rattle.std.specs.Prelude.{Bool, true, false, cond, List, ℕ, ◌+◌, ◌≤◌, min}
 use native.Mathlib.Omega.{arith}
 use lib.Dec.{ltb}
-use borrow.Author.Rules.{rules}
 use borrow.Author.Tests.{lt-ltb, le-ltb}
 use Rattle.property_value.specs.Value.{Checked, malformed, text_ok, placed}
 use Rattle.property_writer.specs.Writing.{refusal_of, property_length}

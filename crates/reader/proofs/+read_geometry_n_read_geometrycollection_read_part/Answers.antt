@@ -1,4 +1,4 @@
-use Rattle.std.proofs.Common.{arith, rules, false, ◌≡◌, ◌-◌, ℕ, refl, sym, ap, subst, ◌∙◌}
+use Rattle.std.proofs.Common.{arith, rules, false, ◌-◌, refl, sym, ap, subst, ◌∙◌}
 use native.Mathlib.Nat.{add-zero, sub-zero, pos_of_ne-zero}
 use Rattle.laws.specs.Script.{Script, run}
 use Rattle.laws.specs.Framed.{went_on, broke_off, ended, no_begin, began}

@@ -1,8 +1,7 @@
 -- A record is read at most two calls below its part, and its parts one level below it.
-use Rattle.std.proofs.Common.{◌≡◌, ℕ, ◌+◌, ◌-◌, ◌*◌, ◌≤◌, length, false}
-use Rattle.laws.specs.Script.{Script, one, ◌⨟◌, run}
+use Rattle.std.proofs.Common.{◌≡◌, ◌+◌, ◌-◌, ◌*◌, ◌≤◌, length, false}
+use Rattle.laws.specs.Script.{one, ◌⨟◌, run}
 use Rattle.kinds.specs.Event.{end_e}
-use Rattle.kinds.specs.declared.event.Event.{Event}
 use Rattle.store.specs.Lists.{pools_of, record_with}
 use Rattle.event_log.specs.Log.{events}
 use Rattle.reader.specs.Reading.{parts_s}

@@ -9,7 +9,6 @@ use Rattle.walks.specs.Walks.{walk_of}
 use Rattle.reader.specs.Roles.{walk_s}
 use Rattle.walks.specs.WalkLaws.{walk-typed}
 use Rattle.reader.proofs.RoleLaws.{read_good, read_bad, good_record, good_lists, bad_record}
-use borrow.Author.Rules.{rules}
 use Rattle.reader.proofs.read.Goals as goal
 
 pub read_geometry_n-requires : goal.read_geometry_n-requires

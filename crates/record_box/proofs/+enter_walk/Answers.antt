@@ -1,11 +1,11 @@
-use Rattle.std.specs.Prelude.{◌≡◌, ◌+◌, ◌*◌, ◌-◌, ◌≤◌, ◌<◌, ℕ}
+use Rattle.std.specs.Prelude.{ℕ}
 use Rattle.std.proofs.Common.{rules, arith, sym, subst, ◌∙◌}
 use Rattle.std.proofs.Math.Nat.{add-zero, sub-zero, pos_of_ne-zero}
 use Rattle.kinds.specs.Lanes.{xyL}
 use Rattle.store.specs.RecordLaws.{InPool, within}
 use Rattle.tree_walk.specs.Records.{Placed, good_placed}
 use Rattle.tree_walk.specs.Steps.{at-depth, at_skip, at_record, went_on, broke_off, came-through}
-use Rattle.record_box.specs.Lent.{bad_walked, good_walked, lone_in_pool, lone_walked}
+use Rattle.record_box.specs.Lent.{bad_walked, good_walked, lone_walked}
 use Rattle.record_box.proofs.+enter_walk.Goals as goal
 
 pub enter-returns-then-levels-eq0 : goal.enter-returns-then-levels-eq0

@@ -1,11 +1,7 @@
-use Rattle.std.proofs.Common.{◌-◌, ◌≡◌, ◌<◌, length, ℕ, ◌+◌, ◌*◌, ◌≤◌}
-use Rattle.store.specs.RecordLaws.{InPool}
-use Rattle.store.specs.Lists.{pools_of, record_with}
-use Rattle.tree_walk.specs.Tree.{refused}
+use Rattle.std.proofs.Common.{◌-◌, ◌≡◌, ◌+◌, ◌*◌, ◌≤◌}
 use Rattle.tree_walk.specs.Memory.{next, parts_kept, marking, kept, uncounted}
 use Rattle.tree_walk.specs.Records.{parts_lent}
-use Rattle.record_box.specs.Boxed.{boxed, box_of}
-use Rattle.record_box.specs.Lent.{own_looked, own_lent}
+use Rattle.record_box.specs.Lent.{own_lent}
 use Rattle.record_box.proofs.+enter_walk.Given as goal
 
 abbrev pub decreases-enter : goal.decreases-enter

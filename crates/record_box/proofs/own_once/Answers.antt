@@ -2,7 +2,6 @@ use mathlib.Core.Path.{◌≡◌, refl, sym, ap, ◌∙◌}
 use Prim.Native.Nat.{ℕ, ◌+◌, ◌-◌}
 use native.Mathlib.Omega.{arith}
 use lib.ListN.{take, drop}
-use borrow.Author.Rules.{rules}
 use Rattle.laws.specs.Cond.{if_so}
 use Rattle.bbox.specs.Box.{box_from}
 use Rattle.record_box.proofs.own_once.Goals as goal

@@ -1,4 +1,3 @@
-use borrow.Author.Rules.{rules}
 use Rattle.record_box.proofs.refuse.Goals as goal
 
 pub returns : goal.returns

@@ -1,4 +1,3 @@
-use borrow.Author.Rules.{rules}
 use Rattle.tree_walk.proofs.parts_of.Goals as goal
 
 pub returns-in-Absent : goal.returns-in-Absent

@@ -5,7 +5,6 @@ use Prim.Native.Nat.{ℕ}
 use mathlib.Core.Bool.{false}
 use Rattle.kinds.specs.Event.{begin_e}
 use Rattle.lines.specs.Lines.{tin_s}
-use borrow.Author.Rules.{rules}
 use Rattle.triangles.proofs.read_tin.Goals as goal
 
 pub returns-then-b-ne-DONE : goal.returns-then-b-ne-DONE

@@ -2,7 +2,6 @@ use mathlib.Core.Path.{refl}
 use Rattle.event_log.specs.Log.{events}
 use Rattle.laws.specs.Framed.{ended}
 use Rattle.triangles.specs.Laws.{triangle_nothing, triangle_single, triangle_many}
-use borrow.Author.Rules.{rules}
 use Rattle.triangles.proofs.read_triangle.Goals as goal
 
 pub returns-then-nothing_there : goal.returns-then-nothing_there

@@ -1,7 +1,6 @@
 use Rattle.laws.specs.Framed.{no_begin, no_body, to_end}
 use Rattle.event_log.specs.Log.{events}
 use Rattle.lines.specs.Lines.{triangle_at}
-use borrow.Author.Rules.{rules}
 use Rattle.triangles.proofs.read_triangle_at.Goals as goal
 
 pub returns-then-b-ne-DONE : goal.returns-then-b-ne-DONE

@@ -1,12 +1,8 @@
 use borrow.Author.Rules.{rules}
-use mathlib.Core.Path.{◌≡◌, refl}
-use Prim.Native.Nat.{◌-◌, ◌≤◌}
-use lib.ListN.{length, drop}
-use Rattle.laws.specs.Script.{run}
+use mathlib.Core.Path.{refl}
 use Rattle.event_log.specs.Log.{events}
 use Rattle.laws.specs.Framed.{went_on, broke_off, ended}
 use Rattle.coords.specs.Seen.{coords_in}
-use Rattle.lines.specs.Lines.{triangles_s}
 use Rattle.triangles.specs.Laws.{triangles_next, triangles_end}
 use Rattle.triangles.proofs.read_triangles.Goals as goal
 

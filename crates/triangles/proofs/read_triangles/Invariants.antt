@@ -1,13 +1,10 @@
-use borrow.Author.Rules.{rules}
-use mathlib.Core.Path.{◌≡◌, refl}
+use mathlib.Core.Path.{◌≡◌}
 use Prim.Native.Nat.{◌-◌, ◌≤◌}
 use lib.ListN.{length, drop}
 use Rattle.laws.specs.Script.{run}
 use Rattle.event_log.specs.Log.{events}
-use Rattle.laws.specs.Framed.{went_on, broke_off, ended}
 use Rattle.coords.specs.Seen.{coords_in}
 use Rattle.lines.specs.Lines.{triangles_s}
-use Rattle.triangles.specs.Laws.{triangles_next, triangles_end}
 use Rattle.triangles.proofs.read_triangles.Given as goal
 
 abbrev pub invariant-loop-i : goal.invariant-loop-i

@@ -1,9 +1,6 @@
-use mathlib.Core.Path.{◌≡◌, sym, ◌∙◌}
-use Prim.Native.Nat.{◌+◌, ◌-◌, ◌≤◌}
+use mathlib.Core.Path.{sym, ◌∙◌}
 use native.Mathlib.Omega.{arith}
-use lib.ListN.{length, drop}
-use borrow.Author.Rules.{rules}
-use Rattle.utf8.specs.Utf8.{first_bad}
+use lib.ListN.{drop}
 use Rattle.utf8.specs.Laws.{char_at_within, bad_here, bad_at_end, bad_at_next, ascii_at}
 use Rattle.utf8.specs.Meaning.{bad_nowhere, bad_at}
 use Rattle.utf8.proofs.first_bad.Goals as goal

@@ -1,11 +1,7 @@
-use mathlib.Core.Path.{◌≡◌, sym, ◌∙◌}
+use mathlib.Core.Path.{◌≡◌}
 use Prim.Native.Nat.{◌+◌, ◌-◌, ◌≤◌}
-use native.Mathlib.Omega.{arith}
 use lib.ListN.{length, drop}
-use borrow.Author.Rules.{rules}
 use Rattle.utf8.specs.Utf8.{first_bad}
-use Rattle.utf8.specs.Laws.{char_at_within, bad_here, bad_at_end, bad_at_next, ascii_at}
-use Rattle.utf8.specs.Meaning.{bad_nowhere, bad_at}
 use Rattle.utf8.proofs.first_bad.Given as goal
 
 abbrev pub invariant-loop-at : goal.invariant-loop-at

@@ -1,5 +1,4 @@
 use native.Mathlib.Omega.{arith}
-use borrow.Author.Rules.{rules}
 use Rattle.utf8.specs.Utf8.{row_of, second}
 use Rattle.utf8.specs.Laws.{second-wide}
 use Rattle.utf8.proofs.second_fits.Goals as goal

@@ -1,7 +1,6 @@
 use mathlib.Core.Path.{refl}
-use borrow.Author.Rules.{rules}
 use Rattle.event_log.specs.LogLaws.{not_whole}
-use Rattle.writing.specs.State.{Mem, mem_of}
+use Rattle.writing.specs.State.{mem_of}
 use Rattle.writing.specs.Ends.{malformed}
 use Rattle.many.specs.Going.{one_record}
 use Rattle.writer.proofs.event.Goals as goal

@@ -1,7 +1,6 @@
 use native.Mathlib.Omega.{arith}
-use borrow.Author.Rules.{rules}
 use Rattle.writing.specs.Ends.{finish-room, finish-taken, finish_refused}
-use Rattle.writing.specs.State.{Mem, mem_of}
+use Rattle.writing.specs.State.{mem_of}
 use Rattle.writer.proofs.finish.Goals as goal
 
 pub put_root-requires : goal.put_root-requires

@@ -1,13 +1,7 @@
-use Prim.Native.Nat.{◌+◌}
 use native.Mathlib.Omega.{arith}
-use borrow.Author.Rules.{rules}
 use Rattle.kinds.specs.Lanes.{xyL, endsL, zL, mL, tL, tmL}
-use Rattle.store.specs.Records.{records_lent}
-use Rattle.store.specs.Lists.{lent_of}
-use Rattle.asking.specs.Ask.{no_words}
 use Rattle.writing.specs.Ends.{next-room, next-taken, next_refused}
-use Rattle.pending.specs.Room.{Room}
-use Rattle.writing.specs.State.{Mem, mem_of}
+use Rattle.writing.specs.State.{mem_of}
 use Rattle.writer.proofs.next.Goals as goal
 
 pub move_words-requires : goal.move_words-requires

@@ -1,5 +1,4 @@
 use mathlib.Core.Path.{sym, ◌∙◌}
-use borrow.Author.Rules.{rules}
 use Rattle.writing.specs.Calls.{is_ready}
 use Rattle.runs.specs.Run.{pair-alone}
 use Rattle.writer.proofs.pair.Goals as goal

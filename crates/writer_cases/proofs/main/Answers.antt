@@ -1,7 +1,4 @@
-use mathlib.Core.Path.{◌≡◌}
 use native.Mathlib.Omega.{arith}
-use lib.ListN.{length}
-use borrow.Author.Rules.{rules}
 use Rattle.writer_cases.proofs.main.Goals as goal
 
 pub loop-turns-init : goal.loop-turns-init

@@ -1,4 +1,3 @@
-use borrow.Author.Rules.{rules}
 use Rattle.as_words.specs.Words.{typing_of, state_of}
 use Rattle.as_words.proofs.state.declared_of.Goals as goal
 

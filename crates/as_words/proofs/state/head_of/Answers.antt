@@ -1,8 +1,6 @@
-use Prim.Native.Nat.{◌+◌, ◌≤◌}
 use native.Mathlib.Omega.{arith}
 use Rattle.as_words.specs.Words.{head_of}
 use Rattle.as_words.specs.WordLaws.{mark_most}
-use borrow.Author.Rules.{rules}
 use Rattle.as_words.proofs.state.head_of.Goals as goal
 
 pub overflow_add-marks : goal.overflow_add-marks

@@ -1,6 +1,5 @@
 use Rattle.as_words.specs.WordLaws.{done-words, refused_words}
 use mathlib.Core.Path.{refl}
-use borrow.Author.Rules.{rules}
 use Rattle.as_words.proofs.state.keep.Goals as goal
 
 pub returns-then-wrote-eq-DONE : goal.returns-then-wrote-eq-DONE

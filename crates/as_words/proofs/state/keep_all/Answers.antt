@@ -1,6 +1,5 @@
 use Rattle.as_words.specs.WordLaws.{taken-words, untaken_words}
 use mathlib.Core.Path.{refl}
-use borrow.Author.Rules.{rules}
 use Rattle.as_words.proofs.state.keep_all.Goals as goal
 
 pub returns-then-took-ne0 : goal.returns-then-took-ne0

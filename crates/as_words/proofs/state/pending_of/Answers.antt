@@ -1,6 +1,5 @@
 use mathlib.Core.Path.{refl}
 use Rattle.as_words.specs.Words.{pending_of}
-use borrow.Author.Rules.{rules}
 use Rattle.as_words.proofs.state.pending_of.Goals as goal
 
 pub returns : goal.returns

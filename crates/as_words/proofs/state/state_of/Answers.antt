@@ -1,5 +1,4 @@
 use Rattle.as_words.specs.Words.{state_of}
-use borrow.Author.Rules.{rules}
 use Rattle.as_words.proofs.state.state_of.Goals as goal
 
 pub returns : goal.returns

@@ -1,5 +1,4 @@
 use Rattle.as_words.specs.Words.{typing_of}
-use borrow.Author.Rules.{rules}
 use Rattle.as_words.proofs.state.typing_of.Goals as goal
 
 pub returns : goal.returns

@@ -1,5 +1,4 @@
 use Rattle.as_words.specs.Words.{words_of, words_of_pending}
-use borrow.Author.Rules.{rules}
 use Rattle.as_words.proofs.state.words_of.Goals as goal
 
 pub returns : goal.returns

@@ -1,7 +1,6 @@
 use mathlib.Core.Path.{refl, sym, ap, ◌∙◌}
 use Prim.Native.Nat.{ℕ}
 use borrow.Author.Tests.{eq-eqb, ne_eqb}
-use borrow.Author.Rules.{rules}
 use Rattle.laws.specs.Cond.{if_so, if_not}
 use Rattle.asking.specs.Ask.{in_collection, begun as spec-begun}
 use Rattle.asking.specs.SetType.{set_type}

@@ -1,4 +1,3 @@
-use borrow.Author.Rules.{rules}
 use Rattle.asking.proofs.ask.calmed.Goals as goal
 
 pub returns-then-tagged-typing : goal.returns-then-tagged-typing

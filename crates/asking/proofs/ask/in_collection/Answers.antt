@@ -1,4 +1,3 @@
-use borrow.Author.Rules.{rules}
 use Rattle.asking.proofs.ask.in_collection.Goals as goal
 
 pub returns-in-Set : goal.returns-in-Set

@@ -1,5 +1,4 @@
 use mathlib.Core.Bool.{true, false}
-use borrow.Author.Rules.{rules}
 use Rattle.asking.proofs.ask.pair_with.Goals as goal
 
 pub returns : goal.returns

@@ -1,5 +1,4 @@
 use borrow.Author.Tests.{eq-eqb, ne_eqb}
-use borrow.Author.Rules.{rules}
 use Rattle.asking.specs.SetType.{collected as spec-collected}
 use Rattle.asking.proofs.set_type.collected.Goals as goal
 

@@ -1,4 +1,3 @@
-use borrow.Author.Rules.{rules}
 use Rattle.asking.proofs.set_type.lifts.Goals as goal
 
 pub returns : goal.returns

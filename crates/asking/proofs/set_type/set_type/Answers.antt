@@ -1,6 +1,5 @@
 use mathlib.Core.Path.{refl, sym, ap, ◌∙◌}
 use borrow.Author.Tests.{eq-eqb, ne_eqb}
-use borrow.Author.Rules.{rules}
 use Rattle.laws.specs.Cond.{if_so, if_not}
 use Rattle.asking.specs.declared.set_type.Typed.TheVariants.{Set}
 use Rattle.asking.specs.SetType.{set_type}

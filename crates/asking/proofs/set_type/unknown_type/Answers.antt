@@ -1,5 +1,4 @@
 use mathlib.Core.Path.{sym, ◌∙◌}
-use borrow.Author.Rules.{rules}
 use Rattle.laws.specs.Cond.{if_so, if_not}
 use Rattle.asking.specs.SetType.{unknown_type}
 use Rattle.asking.proofs.set_type.unknown_type.Goals as goal

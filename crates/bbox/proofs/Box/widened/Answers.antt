@@ -1,4 +1,3 @@
-use borrow.Author.Rules.{rules}
 use Rattle.bbox.specs.Box.{widen}
 use Rattle.bbox.proofs.Box.widened.Goals as goal
 

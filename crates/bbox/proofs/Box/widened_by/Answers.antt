@@ -1,9 +1,6 @@
-use mathlib.Core.Path.{◌≡◌, refl, sym, ◌∙◌}
-use Prim.Native.Nat.{◌≤◌, ◌-◌}
+use mathlib.Core.Path.{refl, sym, ◌∙◌}
 use native.Mathlib.Omega.{arith}
-use lib.ListN.{length, drop}
 use borrow.Author.Rules.{rules}
-use Rattle.bbox.specs.Box.{box_from}
 use Rattle.bbox.specs.Pairs.{pair-taken, pairs-done}
 use Rattle.bbox.proofs.Box.widened_by.Goals as goal
 

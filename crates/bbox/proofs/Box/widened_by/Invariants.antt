@@ -1,10 +1,7 @@
-use mathlib.Core.Path.{◌≡◌, refl, sym, ◌∙◌}
+use mathlib.Core.Path.{◌≡◌}
 use Prim.Native.Nat.{◌≤◌, ◌-◌}
-use native.Mathlib.Omega.{arith}
 use lib.ListN.{length, drop}
-use borrow.Author.Rules.{rules}
 use Rattle.bbox.specs.Box.{box_from}
-use Rattle.bbox.specs.Pairs.{pair-taken, pairs-done}
 use Rattle.bbox.proofs.Box.widened_by.Given as goal
 
 -- the pairs that are left widen the box so far to what the whole list makes of the first

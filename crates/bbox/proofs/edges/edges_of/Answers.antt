@@ -1,5 +1,4 @@
 use Rattle.bbox.specs.Edges.{edges_of}
-use borrow.Author.Rules.{rules}
 use Rattle.bbox.proofs.edges.edges_of.Goals as goal
 
 pub returns : goal.returns

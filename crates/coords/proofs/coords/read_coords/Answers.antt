@@ -1,12 +1,8 @@
 use borrow.Author.Rules.{rules}
 use native.Mathlib.Nat.{add-zero}
-use mathlib.Core.Path.{◌≡◌, refl}
-use Prim.Native.Nat.{◌+◌, ◌-◌, ◌*◌, ◌≤◌, ◌<◌}
-use lib.ListN.{length, drop}
-use Rattle.laws.specs.Script.{run}
+use mathlib.Core.Path.{refl}
 use Rattle.laws.specs.Framed.{went_on, broke_off, ended}
 use Rattle.event_log.specs.Log.{events}
-use Rattle.coords.specs.Coords.{coords_s, dropped}
 use Rattle.coords.specs.Seen.{lanes_in}
 use Rattle.coords.specs.CoordLaws.{coords_end, coords_odd, coords_short, coords_whole}
 use Rattle.coords.proofs.coords.read_coords.Goals as goal

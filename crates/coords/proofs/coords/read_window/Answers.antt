@@ -1,6 +1,5 @@
 use Rattle.laws.specs.Framed.{no_begin, no_body, to_end}
 use Rattle.event_log.specs.Log.{events}
-use borrow.Author.Rules.{rules}
 use Rattle.coords.proofs.coords.read_window.Goals as goal
 
 pub returns-then-b-ne-DONE : goal.returns-then-b-ne-DONE

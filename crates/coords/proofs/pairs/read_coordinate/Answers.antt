@@ -1,5 +1,4 @@
 use Rattle.coords.specs.PairLaws.{some-past, all_there}
-use borrow.Author.Rules.{rules}
 use Rattle.coords.proofs.pairs.read_coordinate.Goals as goal
 
 pub returns-then-past : goal.returns-then-past

@@ -1,5 +1,4 @@
 use Rattle.coords.specs.PairLaws.{pair-plain, pair_many}
-use borrow.Author.Rules.{rules}
 use Rattle.coords.proofs.pairs.read_pair.Goals as goal
 
 pub returns-then-not-seen : goal.returns-then-not-seen

@@ -1,7 +1,6 @@
 use mathlib.Core.Bool.{not}
 use mathlib.Core.Path.{ap}
 use Rattle.coords.specs.PairLaws.{value_absent, value_there, value_past}
-use borrow.Author.Rules.{rules}
 use Rattle.coords.proofs.pairs.value_at.Goals as goal
 
 pub returns-then-not-there : goal.returns-then-not-there

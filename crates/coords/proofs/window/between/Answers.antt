@@ -1,7 +1,6 @@
 use mathlib.Core.Bool.{not}
 use mathlib.Core.Path.{ap}
 use Rattle.coords.specs.CoordLaws.{windowed_absent, windowed_in, windowed_cut, windowed_past, windowed_empty}
-use borrow.Author.Rules.{rules}
 use Rattle.coords.proofs.window.between.Goals as goal
 
 pub returns-then-not-there : goal.returns-then-not-there

@@ -1,5 +1,4 @@
 use native.Mathlib.Omega.{arith}
-use borrow.Author.Rules.{rules}
 use Rattle.decimal.specs.FiniteLaws.{cut_below, cut_full}
 use Rattle.decimal.proofs.finite.carried.Goals as goal
 

@@ -1,5 +1,4 @@
 use native.Mathlib.Omega.{arith}
-use borrow.Author.Rules.{rules}
 use Rattle.decimal.specs.FiniteLaws.{told_below, told_vast, told_whole}
 use Rattle.decimal.proofs.finite.finite.Goals as goal
 

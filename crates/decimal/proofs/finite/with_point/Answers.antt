@@ -1,9 +1,8 @@
 use mathlib.Core.Path.{◌≡◌, ap, ◌∙◌}
-use Prim.Native.Nat.{ℕ, ◌+◌, ◌*◌, ◌-◌, ◌/◌, ◌%◌, ◌^◌, ◌≤◌}
+use Prim.Native.Nat.{ℕ, ◌+◌, ◌*◌, ◌-◌, ◌/◌, ◌%◌, ◌^◌}
 use native.Mathlib.Nat.{mod-lt}
 use native.Mathlib.Omega.{arith}
 use lib.Pow.{shr_le}
-use borrow.Author.Rules.{rules}
 use Rattle.decimal.specs.Magnitude.{cut}
 use Rattle.decimal.specs.FiniteLaws.{parted, at_most_one}
 use Rattle.decimal.proofs.finite.with_point.Goals as goal

@@ -3,7 +3,6 @@ use mathlib.Core.Bool.{true, false}
 use Prim.Native.Nat.{◌-◌}
 use native.Mathlib.Omega.{arith}
 use lib.Pow.{shr_le}
-use borrow.Author.Rules.{rules}
 use Rattle.decimal.specs.FractionLaws.{tiny, rounded}
 use Rattle.decimal.proofs.fraction.ten_millionths.Goals as goal
 

@@ -1,7 +1,4 @@
 use Rattle.decimal.specs.TextLaws.{glyph_of}
-use borrow.Author.Rules.{rules}
-use Rattle.decimal.proofs.text.digit.Reads as reads
-use Rattle.decimal.proofs.text.digit.Lts as lts
 use Rattle.decimal.proofs.text.digit.Goals as goal
 
 pub returns : goal.returns

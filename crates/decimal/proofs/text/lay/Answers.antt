@@ -1,10 +1,7 @@
-use mathlib.Core.Path.{◌≡◌, refl}
-use mathlib.Core.List.{◌++◌}
-use Prim.Native.Nat.{◌-◌, ◌≤◌}
+use mathlib.Core.Path.{refl}
+use Prim.Native.Nat.{◌-◌}
 use native.Mathlib.Omega.{arith}
-use lib.ListN.{length, drop, length-set}
-use borrow.Author.Rules.{rules}
-use Rattle.io.specs.Digits.{last_digits}
+use lib.ListN.{length-set}
 use Rattle.decimal.specs.TextLaws.{laid_more, laid-all}
 use Rattle.decimal.proofs.text.lay.Goals as goal
 

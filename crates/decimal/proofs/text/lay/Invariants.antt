@@ -1,11 +1,8 @@
-use mathlib.Core.Path.{◌≡◌, refl}
+use mathlib.Core.Path.{◌≡◌}
 use mathlib.Core.List.{◌++◌}
 use Prim.Native.Nat.{◌-◌, ◌≤◌}
-use native.Mathlib.Omega.{arith}
-use lib.ListN.{length, drop, length-set}
-use borrow.Author.Rules.{rules}
+use lib.ListN.{length, drop}
 use Rattle.io.specs.Digits.{last_digits}
-use Rattle.decimal.specs.TextLaws.{laid_more, laid-all}
 use Rattle.decimal.proofs.text.lay.Given as goal
 
 abbrev pub invariant-loop-i : goal.invariant-loop-i

@@ -1,5 +1,4 @@
 use native.Mathlib.Omega.{arith}
-use borrow.Author.Rules.{rules}
 use Rattle.decimal.specs.TextLaws.{few_places}
 use Rattle.decimal.proofs.text.places.Goals as goal
 

@@ -1,6 +1,5 @@
 use lib.ListN.{get_or}
 use lib.Dec.{eqb}
-use borrow.Author.Rules.{rules}
 use Rattle.event_layout.specs.Event.{event_of}
 use Rattle.event_layout.proofs.event.event_of.Goals as goal
 

@@ -1,4 +1,3 @@
-use borrow.Author.Rules.{rules}
 use Rattle.event_layout.specs.Event.{feature_of}
 use Rattle.event_layout.proofs.event.feature_of.Goals as goal
 

@@ -1,6 +1,5 @@
-use mathlib.Core.Path.{◌≡◌, sym, ap, ◌∙◌}
+use mathlib.Core.Path.{sym, ap, ◌∙◌}
 use borrow.Author.Tests.{ne_eqb}
-use borrow.Author.Rules.{rules}
 use Rattle.kinds.specs.Event.{uses_of, parsed, is_event}
 use Rattle.kinds.specs.EventLaws.{event-by}
 use Rattle.event_layout.specs.Event.{read_event}

@@ -1,5 +1,4 @@
 use native.Mathlib.Omega.{arith}
-use borrow.Author.Rules.{rules}
 use Rattle.event_layout.specs.EventLaws.{own_pair}
 use Rattle.event_layout.proofs.event.is_pair.Goals as goal
 

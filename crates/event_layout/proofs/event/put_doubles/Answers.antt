@@ -1,6 +1,5 @@
 use mathlib.Core.List.{◌++◌}
 use mathlib.Core.Path.{refl}
-use borrow.Author.Rules.{rules}
 use Rattle.laws.specs.Bytes.{le}
 use Rattle.laws.specs.Runs.{then}
 use Rattle.event_layout.proofs.event.put_doubles.Goals as goal

@@ -1,6 +1,5 @@
 use mathlib.Core.List.{◌++◌}
 use mathlib.Core.Path.{refl, ◌∙◌}
-use borrow.Author.Rules.{rules}
 use Rattle.laws.specs.Bytes.{le}
 use Rattle.laws.specs.Runs.{then, sets_whole}
 use Rattle.event_layout.specs.Event.{bit, double_bytes, event_bytes}

@@ -1,5 +1,4 @@
 use mathlib.Core.Path.{sym, ap, ◌∙◌}
-use borrow.Author.Rules.{rules}
 use Rattle.kinds.specs.Event.{uses_of, parsed, told_apart}
 use Rattle.kinds.specs.EventLaws.{told-pair}
 use Rattle.event_layout.specs.EventLaws.{whole_read}

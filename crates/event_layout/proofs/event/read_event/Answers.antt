@@ -1,10 +1,9 @@
 use mathlib.Core.Bool.{not}
-use mathlib.Core.Path.{◌≡◌, refl, sym, ap, ◌∙◌}
+use mathlib.Core.Path.{refl, sym, ap, ◌∙◌}
 use mathlib.Core.Bool.{Bool, true}
 use native.Mathlib.Omega.{arith}
 use lib.Dec.{eqb}
 use borrow.Author.Tests.{ne_eqb, eqb-true}
-use borrow.Author.Rules.{rules}
 use Rattle.laws.specs.Branch.{is_true, is_false}
 use Rattle.laws.specs.Every.{both}
 use Rattle.kinds.specs.Event.{uses_of, parsed, told_apart}

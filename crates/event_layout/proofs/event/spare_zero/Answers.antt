@@ -1,5 +1,4 @@
 use mathlib.Core.Path.{refl}
-use borrow.Author.Rules.{rules}
 use Rattle.event_layout.specs.Event.{spare_zero}
 use Rattle.event_layout.proofs.event.spare_zero.Goals as goal
 

@@ -1,5 +1,4 @@
 use native.Mathlib.Omega.{arith}
-use borrow.Author.Rules.{rules}
 use Rattle.event_layout.specs.Head.{head-word}
 use Rattle.event_layout.proofs.head.head_word.Goals as goal
 

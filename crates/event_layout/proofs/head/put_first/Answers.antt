@@ -1,6 +1,5 @@
 use mathlib.Core.Path.{ap, ◌∙◌}
 use lib.Seq.{sets}
-use borrow.Author.Rules.{rules}
 use Rattle.event_layout.proofs.head.put_first.Goals as goal
 
 pub returns : goal.returns

@@ -1,7 +1,6 @@
 use mathlib.Core.Path.{ap, ◌∙◌}
 use native.Mathlib.Omega.{arith}
 use lib.Seq.{sets}
-use borrow.Author.Rules.{rules}
 use Rattle.event_layout.specs.Head.{two-words}
 use Rattle.event_layout.proofs.head.put_two.Goals as goal
 

@@ -2,7 +2,6 @@ use mathlib.Core.List.{◌++◌}
 use mathlib.Core.Path.{◌≡◌, refl, ◌∙◌}
 use Prim.Native.Nat.{◌%◌, ◌/◌}
 use native.Mathlib.Omega.{arith}
-use borrow.Author.Rules.{rules}
 use Rattle.laws.specs.Bytes.{le}
 use Rattle.laws.specs.Runs.{then, sets_whole}
 use Rattle.event_layout.specs.Value.{value_bytes}

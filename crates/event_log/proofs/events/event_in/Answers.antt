@@ -1,5 +1,4 @@
 use mathlib.Core.Path.{◌∙◌}
-use borrow.Author.Rules.{rules}
 use Rattle.event_log.specs.LogLaws.{heard-event}
 use Rattle.event_log.proofs.events.event_in.Goals as goal
 

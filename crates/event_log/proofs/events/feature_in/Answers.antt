@@ -1,4 +1,3 @@
-use borrow.Author.Rules.{rules}
 use Rattle.event_log.specs.Log.{feature_in}
 use Rattle.event_log.proofs.events.feature_in.Goals as goal
 

@@ -1,4 +1,3 @@
-use borrow.Author.Rules.{rules}
 use Rattle.event_log.specs.Log.{heard}
 use Rattle.event_log.proofs.events.hear.Goals as goal
 

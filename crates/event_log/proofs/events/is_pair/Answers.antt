@@ -1,4 +1,3 @@
-use borrow.Author.Rules.{rules}
 use Rattle.event_log.specs.Log.{heard, feature_in}
 use Rattle.event_log.proofs.events.is_pair.Goals as goal
 

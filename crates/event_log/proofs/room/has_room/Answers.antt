@@ -1,5 +1,4 @@
 use mathlib.Core.Path.{refl}
-use borrow.Author.Rules.{rules}
 use Rattle.laws.specs.Script.{room_at}
 use Rattle.event_log.proofs.room.has_room.Goals as goal
 

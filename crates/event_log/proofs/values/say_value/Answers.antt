@@ -3,7 +3,6 @@ use mathlib.Core.Path.{ap}
 use mathlib.Core.Path.{refl}
 use Prim.Native.Nat.{◌*◌, ◌+◌}
 use native.Mathlib.Omega.{arith}
-use borrow.Author.Rules.{rules}
 use Rattle.laws.specs.Script.{one_full, room_in_lem}
 use Rattle.laws.specs.Branch.{is_true, is_false}
 use Rattle.event_log.specs.Values.{values}

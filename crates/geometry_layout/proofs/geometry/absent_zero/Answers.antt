@@ -1,4 +1,3 @@
-use borrow.Author.Rules.{rules}
 use Rattle.geometry_layout.proofs.geometry.absent_zero.Goals as goal
 
 pub returns : goal.returns

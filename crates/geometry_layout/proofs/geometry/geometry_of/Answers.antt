@@ -1,5 +1,4 @@
 use lib.ListN.{get_or}
-use borrow.Author.Rules.{rules}
 use Rattle.geometry_layout.specs.Geometry.{geometry_of}
 use Rattle.geometry_layout.proofs.geometry.geometry_of.Goals as goal
 

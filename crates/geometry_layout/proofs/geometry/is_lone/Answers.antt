@@ -1,7 +1,6 @@
 use mathlib.Core.Bool.{◌&&◌}
 use lib.ListN.{get_or}
 use lib.Dec.{eqb}
-use borrow.Author.Rules.{rules}
 use Rattle.geometry_layout.specs.Lone.{is_lone}
 use Rattle.geometry_layout.proofs.geometry.is_lone.Goals as goal
 

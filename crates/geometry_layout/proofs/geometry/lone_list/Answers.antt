@@ -1,4 +1,3 @@
-use borrow.Author.Rules.{rules}
 use Rattle.geometry_layout.specs.Lone.{lone_in}
 use Rattle.geometry_layout.proofs.geometry.lone_list.Goals as goal
 

@@ -1,5 +1,4 @@
 use Prim.Native.Nat.{◌+◌}
-use borrow.Author.Rules.{rules}
 use Rattle.geometry_layout.specs.Geometry.{present_of}
 use Rattle.geometry_layout.proofs.geometry.present_of.Goals as goal
 

@@ -1,6 +1,5 @@
 use mathlib.Core.List.{◌++◌}
 use mathlib.Core.Path.{refl, ◌∙◌}
-use borrow.Author.Rules.{rules}
 use Rattle.laws.specs.Bytes.{le}
 use Rattle.laws.specs.Runs.{then, sets_whole}
 use Rattle.geometry_layout.specs.Geometry.{head_bytes, present_of, span_bytes, geometry_bytes}

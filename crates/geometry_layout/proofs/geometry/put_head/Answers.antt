@@ -1,6 +1,5 @@
 use native.Mathlib.Omega.{arith}
 use lib.ListN.{length-set}
-use borrow.Author.Rules.{rules}
 use Rattle.geometry_layout.proofs.geometry.put_head.Goals as goal
 
 pub bounds-s-1 : goal.bounds-s-1

@@ -1,5 +1,4 @@
 use mathlib.Core.Path.{refl}
-use borrow.Author.Rules.{rules}
 use Rattle.kinds.specs.Geometry.{start_of, count_of}
 use Rattle.laws.specs.Bytes.{le}
 use Rattle.laws.specs.Runs.{then}

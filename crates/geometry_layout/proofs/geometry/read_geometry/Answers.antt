@@ -1,5 +1,4 @@
 use borrow.Author.Tests.{eq-eqb, ne_eqb}
-use borrow.Author.Rules.{rules}
 use Rattle.geometry_layout.specs.Geometry.{read_geometry}
 use Rattle.geometry_layout.proofs.geometry.read_geometry.Goals as goal
 

@@ -1,7 +1,6 @@
 use mathlib.Core.Bool.{◌&&◌}
 use lib.ListN.{get_or}
 use lib.Dec.{ltb, eqb}
-use borrow.Author.Rules.{rules}
 use Rattle.geometry_layout.specs.Geometry.{sound_geometry}
 use Rattle.geometry_layout.proofs.geometry.sound_geometry.Goals as goal
 

@@ -1,4 +1,3 @@
-use borrow.Author.Rules.{rules}
 use Rattle.geometry_layout.proofs.geometry.span_at.Goals as goal
 
 pub returns-then-bit_set : goal.returns-then-bit_set

@@ -1,7 +1,4 @@
-use Rattle.std.proofs.Common.{◌≡◌, ◌-◌, ◌≤◌, length, rules}
-use Rattle.job_file.proofs.columns.read_columns.Reads as reads
-use Rattle.job_file.proofs.columns.read_columns.Lts as lts
-use Rattle.job_file.proofs.columns.read_column.Reads as read-column-reads
+use Rattle.std.proofs.Common.{◌≡◌, ◌-◌, ◌≤◌, length}
 use Rattle.job_file.proofs.columns.read_columns.Given as goal
 
 abbrev pub invariant-loop-i : goal.invariant-loop-i

@@ -2,7 +2,6 @@ use mathlib.Core.Path.{refl}
 use Rattle.event_log.specs.Log.{events}
 use Rattle.laws.specs.Framed.{ended}
 use Rattle.lines.specs.LineLaws.{flat_absent, flat_whole}
-use borrow.Author.Rules.{rules}
 use Rattle.lines.proofs.lines.read_line.Goals as goal
 
 pub returns-then-not-seen : goal.returns-then-not-seen

@@ -1,12 +1,8 @@
 use borrow.Author.Rules.{rules}
-use mathlib.Core.Path.{◌≡◌, refl}
-use Prim.Native.Nat.{◌-◌, ◌≤◌}
-use lib.ListN.{length, drop}
-use Rattle.laws.specs.Script.{run}
+use mathlib.Core.Path.{refl}
 use Rattle.event_log.specs.Log.{events}
 use Rattle.laws.specs.Framed.{went_on, broke_off, ended}
 use Rattle.coords.specs.Seen.{coords_in}
-use Rattle.lines.specs.Lines.{lines_s}
 use Rattle.lines.specs.LineLaws.{lines_next, lines_end}
 use Rattle.lines.proofs.lines.read_lines.Goals as goal
 

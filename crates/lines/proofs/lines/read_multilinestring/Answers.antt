@@ -2,7 +2,6 @@ use mathlib.Core.Path.{refl}
 use Rattle.event_log.specs.Log.{events}
 use Rattle.laws.specs.Framed.{ended}
 use Rattle.lines.specs.LineLaws.{multi-nothing, multi-some}
-use borrow.Author.Rules.{rules}
 use Rattle.lines.proofs.lines.read_multilinestring.Goals as goal
 
 pub returns-then-nothing_there : goal.returns-then-nothing_there

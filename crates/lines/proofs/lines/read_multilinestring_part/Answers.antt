@@ -4,7 +4,6 @@ use Rattle.event_log.specs.Log.{events}
 use Rattle.laws.specs.Framed.{ended}
 use Rattle.coords.specs.Seen.{coords_in}
 use Rattle.lines.specs.LineLaws.{good_end, stretch_bad, stretch_good}
-use borrow.Author.Rules.{rules}
 use Rattle.lines.proofs.lines.read_multilinestring_part.Goals as goal
 
 pub returns-then-bad_end : goal.returns-then-bad_end

@@ -1,6 +1,5 @@
 use Rattle.coords.specs.Seen.{coords_in}
 use Rattle.lines.specs.LineLaws.{rings_single, rings_many}
-use borrow.Author.Rules.{rules}
 use Rattle.lines.proofs.lines.read_rings.Goals as goal
 
 pub returns-then-ends-le1 : goal.returns-then-ends-le1

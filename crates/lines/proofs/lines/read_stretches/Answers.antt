@@ -4,7 +4,6 @@ use mathlib.Core.Path.{ap, ◌∙◌}
 use Prim.Native.Nat.{ℕ}
 use Rattle.kinds.specs.Event.{begin_e}
 use Rattle.lines.specs.Lines.{stretches_s}
-use borrow.Author.Rules.{rules}
 use Rattle.lines.proofs.lines.read_stretches.Goals as goal
 
 pub returns-then-b-ne-DONE : goal.returns-then-b-ne-DONE

@@ -1,5 +1,4 @@
 use borrow.Author.Tests.{le-leb, lt-leb}
-use borrow.Author.Rules.{rules}
 use Rattle.lines.proofs.lines.stretches.Goals as goal
 
 pub returns-then-ends-le1 : goal.returns-then-ends-le1

@@ -1,6 +1,5 @@
 use native.Mathlib.Omega.{arith}
 use lib.ListN.{length-set}
-use borrow.Author.Rules.{rules}
 use Rattle.laws.specs.Runs.{four}
 use Rattle.numbers.proofs.little_endian.put_u32.Goals as goal
 

@@ -2,7 +2,6 @@ use mathlib.Core.List.{List}
 use mathlib.Core.Path.{refl, sym, ap, ◌∙◌}
 use Prim.Native.Nat.{ℕ, ◌%◌, ◌/◌}
 use lib.Seq.{sets}
-use borrow.Author.Rules.{rules}
 use Rattle.laws.specs.Runs.{then}
 use Rattle.laws.specs.Bytes.{le, halves}
 use Rattle.numbers.proofs.little_endian.put_u64.Goals as goal

@@ -1,5 +1,4 @@
 use native.Mathlib.Omega.{arith}
-use borrow.Author.Rules.{rules}
 use Rattle.laws.specs.Bytes.{two_at}
 use Rattle.numbers.proofs.little_endian.u16_at.Goals as goal
 

@@ -1,5 +1,4 @@
 use native.Mathlib.Omega.{arith}
-use borrow.Author.Rules.{rules}
 use Rattle.laws.specs.Bytes.{eight_at}
 use Rattle.numbers.proofs.little_endian.u64_at.Goals as goal
 

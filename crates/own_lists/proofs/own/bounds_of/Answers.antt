@@ -1,5 +1,4 @@
 use Rattle.own_lists.specs.OwnLaws.{bounds_absent, bounds_there}
-use borrow.Author.Rules.{rules}
 use Rattle.own_lists.proofs.own.bounds_of.Goals as goal
 
 pub returns-in-Absent : goal.returns-in-Absent

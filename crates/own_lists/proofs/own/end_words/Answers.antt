@@ -1,5 +1,4 @@
 use Rattle.own_lists.specs.OwnLaws.{part_words}
-use borrow.Author.Rules.{rules}
 use Rattle.own_lists.proofs.own.end_words.Goals as goal
 
 pub returns : goal.returns

@@ -2,7 +2,6 @@ use Rattle.coords.specs.Seen.{coords_in}
 use Rattle.lines.specs.LineLaws.{point-is}
 use Rattle.own_lists.specs.OwnLaws.{own-point, own_line, own-polygon, own-lines, own_tin, own_triangle, typed-line}
 use mathlib.Core.Path.{◌∙◌}
-use borrow.Author.Rules.{rules}
 use Rattle.own_lists.proofs.own.read_lists.Goals as goal
 
 pub read_line-requires : goal.read_line-requires

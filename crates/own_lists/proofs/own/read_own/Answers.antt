@@ -2,7 +2,6 @@ use lib.ListN.{length}
 use Rattle.kinds.specs.Lanes.{xyL, endsL, zL, mL, tL, tmL}
 use Rattle.store.specs.Lists.{pools_of}
 use Rattle.own_lists.specs.OwnLaws.{in_pool_lem, words_fit, own_is}
-use borrow.Author.Rules.{rules}
 use Rattle.own_lists.proofs.own.read_own.Goals as goal
 
 pub words-xy-requires : goal.words-xy-requires

@@ -1,5 +1,4 @@
 use Rattle.own_lists.specs.Own.{seen_of}
-use borrow.Author.Rules.{rules}
 use Rattle.own_lists.proofs.own.seen_of.Goals as goal
 
 pub returns : goal.returns

@@ -1,4 +1,3 @@
-use borrow.Author.Rules.{rules}
 use Rattle.pending.proofs.growth.grown.Goals as goal
 
 pub returns : goal.returns

@@ -1,4 +1,3 @@
-use borrow.Author.Rules.{rules}
 use Rattle.kinds.specs.declared.geometry.Span.TheVariants.{Absent}
 use Rattle.pending.specs.Growth.{part_of}
 use Rattle.pending.proofs.part.part_of.Goals as goal

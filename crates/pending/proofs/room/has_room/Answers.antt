@@ -1,4 +1,3 @@
-use borrow.Author.Rules.{rules}
 use Rattle.pending.specs.Room.{has_room}
 use Rattle.pending.proofs.room.has_room.Goals as goal
 

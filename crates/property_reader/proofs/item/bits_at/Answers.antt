@@ -1,6 +1,5 @@
 use mathlib.Core.Path.{sym, ◌∙◌}
 use native.Mathlib.Omega.{arith}
-use borrow.Author.Rules.{rules}
 use Rattle.property_value.specs.ColumnLaws.{last_width}
 use Rattle.property_reader.specs.ReadingSteps.{one_at}
 use Rattle.property_reader.proofs.item.bits_at.Goals as goal

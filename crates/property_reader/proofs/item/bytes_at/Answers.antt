@@ -2,7 +2,6 @@ use mathlib.Core.Path.{◌≡◌, subst}
 use Prim.Native.Nat.{◌+◌, ◌-◌}
 use native.Mathlib.Omega.{arith}
 use borrow.Author.Tests.{lt-ltb, le-ltb}
-use borrow.Author.Rules.{rules}
 use Rattle.property_value.specs.Value.{Checked}
 use Rattle.property_reader.specs.Reading.{bytes_at}
 use Rattle.property_reader.proofs.item.bytes_at.Goals as goal

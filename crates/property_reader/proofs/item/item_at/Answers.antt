@@ -1,5 +1,4 @@
 use borrow.Author.Tests.{lt-ltb, le-ltb, le-leb, lt-leb}
-use borrow.Author.Rules.{rules}
 use Rattle.property_reader.specs.Reading.{item_at}
 use Rattle.property_reader.proofs.item.item_at.Goals as goal
 

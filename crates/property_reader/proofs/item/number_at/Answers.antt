@@ -1,6 +1,5 @@
 use native.Mathlib.Omega.{arith}
 use borrow.Author.Tests.{lt-ltb, le-ltb}
-use borrow.Author.Rules.{rules}
 use Rattle.property_value.specs.ColumnLaws.{width_most, number_width}
 use Rattle.property_reader.specs.Reading.{number_at}
 use Rattle.property_reader.proofs.item.number_at.Goals as goal

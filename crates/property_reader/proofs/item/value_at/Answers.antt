@@ -1,5 +1,4 @@
 use borrow.Author.Tests.{lt-ltb, le-ltb}
-use borrow.Author.Rules.{rules}
 use Rattle.property_reader.specs.Reading.{value_at}
 use Rattle.property_reader.proofs.item.value_at.Goals as goal
 

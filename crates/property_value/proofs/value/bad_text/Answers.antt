@@ -1,5 +1,4 @@
 use mathlib.Core.Path.{sym, ◌∙◌}
-use borrow.Author.Rules.{rules}
 use Rattle.property_value.specs.Value.{text_ok}
 use Rattle.property_value.specs.ValueLaws.{checked}
 use Rattle.property_value.proofs.value.bad_text.Goals as goal

@@ -2,7 +2,6 @@ use mathlib.Core.Path.{refl}
 use Prim.Native.Nat.{◌+◌}
 use native.Mathlib.Omega.{arith}
 use lib.ListN.{length-take, length-drop}
-use borrow.Author.Rules.{rules}
 use Rattle.laws.specs.Bytes.{le}
 use Rattle.laws.specs.Runs.{then, lent_tail}
 use Rattle.property_writer.specs.Writing.{laid_down, property_bytes}

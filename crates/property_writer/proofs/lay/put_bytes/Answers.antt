@@ -1,9 +1,9 @@
 use mathlib.Core.Path.{◌≡◌, refl}
-use Prim.Native.Nat.{suc, ◌+◌, ◌-◌, ◌≤◌}
+use Prim.Native.Nat.{suc, ◌+◌}
 use native.Mathlib.Nat.{add-zero}
 use native.Mathlib.Omega.{arith}
-use lib.ListN.{length, drop, length-set, drop_of_length-le}
-use lib.Seq.{sets, drop-cons}
+use lib.ListN.{length-set, drop_of_length-le}
+use lib.Seq.{drop-cons}
 use borrow.Author.Rules.{rules}
 use Rattle.property_writer.proofs.lay.put_bytes.Goals as goal
 

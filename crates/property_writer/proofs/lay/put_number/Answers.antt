@@ -1,7 +1,6 @@
 use mathlib.Core.Path.{◌≡◌}
 use Prim.Native.Nat.{◌%◌}
 use native.Mathlib.Omega.{arith}
-use borrow.Author.Rules.{rules}
 use Rattle.property_value.specs.ColumnLaws.{last_width}
 use Rattle.property_writer.proofs.lay.put_number.Goals as goal
 

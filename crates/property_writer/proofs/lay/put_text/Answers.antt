@@ -1,6 +1,5 @@
 use mathlib.Core.Path.{refl}
 use lib.ListN.{length}
-use borrow.Author.Rules.{rules}
 use Rattle.laws.specs.Bytes.{le}
 use Rattle.laws.specs.Runs.{then}
 use Rattle.property_writer.specs.Writing.{text_bytes}

@@ -1,7 +1,6 @@
 use mathlib.Core.Path.{ap}
 use native.Mathlib.Omega.{arith}
 use lib.ListN.{length}
-use borrow.Author.Rules.{rules}
 use Rattle.laws.specs.Bytes.{length-le}
 use Rattle.property_value.specs.ColumnLaws.{number_width}
 use Rattle.property_value.specs.Column.{width_of}

@@ -1,7 +1,5 @@
 use mathlib.Core.Path.{◌≡◌}
-use native.Mathlib.Omega.{arith}
-use lib.ListN.{length, length-set}
-use borrow.Author.Rules.{rules}
+use lib.ListN.{length}
 use Rattle.replay.proofs.packed.put_run.Given as goal
 
 abbrev pub invariant-loop-left : goal.invariant-loop-left

@@ -1,6 +1,6 @@
 use lib.ListN.{length}
 use borrow.Author.Rules.{rules}
-use Rattle.runs.specs.Run.{ValuesTold, values-told}
+use Rattle.runs.specs.Run.{values-told}
 use Rattle.runs.proofs.run.push_values.Goals as goal
 
 pub push_pair-requires : goal.push_pair-requires

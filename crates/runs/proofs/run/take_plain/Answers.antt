@@ -1,9 +1,8 @@
-use mathlib.Core.Path.{◌≡◌, refl, sym, ap, ◌∙◌}
+use mathlib.Core.Path.{◌≡◌, sym, ap, ◌∙◌}
 use mathlib.Core.Bool.{Bool, true, false, not, ◌&&◌}
 use mathlib.Core.List.{List}
 use Prim.Native.Nat.{ℕ, ◌+◌, ◌*◌, ◌-◌, ◌/◌, ◌≤◌, ◌<◌}
 use native.Mathlib.Omega.{arith}
-use lib.Dec.{eqb}
 use lib.ListN.{length, take, drop}
 use borrow.Author.Tests.{ne_eqb}
 use Rattle.laws.specs.Branch.{is_true, is_false}
@@ -12,11 +11,10 @@ use Rattle.kinds.specs.declared.event.Heard.{Heard}
 use Rattle.event_log.specs.Log.{heard, feature_in, record_of}
 use Rattle.event_log.specs.LogLaws.{Behind, behind}
 use Rattle.asking.specs.declared.ask.Added.{Added}
-use Rattle.asking.specs.Ask.{pair_with}
 use Rattle.pending.specs.Growth.{grown_values}
 use Rattle.writing.specs.Other.{other-below}
 use Rattle.pending.specs.Room.{room_in_lem}
-use Rattle.runs.specs.Run.{values_of, values_room, pair_room, pushed, none_taken, whole_record, pair-taken, pair_blocked, quiet_taken, quiet_blocked, coordinate-taken, coordinate_blocked, another_blocked}
+use Rattle.runs.specs.Run.{values_of, values_room, pushed, none_taken, whole_record, pair-taken, pair_blocked, quiet_taken, quiet_blocked, coordinate-taken, coordinate_blocked, another_blocked}
 use Rattle.runs.proofs.run.take_plain.Goals as goal
 
 -- a turn's record is heard, under its number

@@ -1,6 +1,5 @@
 use mathlib.Core.Bool.{not}
 use mathlib.Core.Path.{ap}
-use borrow.Author.Rules.{rules}
 use Rattle.laws.specs.Branch.{is_true, is_false}
 use Rattle.runs.proofs.run.values_room.Goals as goal
 

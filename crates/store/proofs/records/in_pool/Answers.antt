@@ -1,4 +1,3 @@
-use borrow.Author.Rules.{rules}
 use Rattle.store.proofs.records.in_pool.Goals as goal
 
 pub returns-in-Stretch : goal.returns-in-Stretch

@@ -1,4 +1,3 @@
-use borrow.Author.Rules.{rules}
 use Rattle.store.proofs.records.in_xy_pool.Goals as goal
 
 pub returns-then-in_pool : goal.returns-then-in_pool

@@ -1,4 +1,3 @@
-use borrow.Author.Rules.{rules}
 use Rattle.store.proofs.records.judge.Goals as goal
 
 pub returns-then-lists_in : goal.returns-then-lists_in

@@ -1,5 +1,4 @@
 use mathlib.Core.Bool.{◌&&◌}
-use borrow.Author.Rules.{rules}
 use Rattle.store.specs.Records.{lists_in}
 use Rattle.store.proofs.records.lists_in.Goals as goal
 

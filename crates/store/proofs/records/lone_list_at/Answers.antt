@@ -3,7 +3,6 @@ use mathlib.Core.Path.{◌≡◌, sym, ap, subst, ◌∙◌}
 use Prim.Native.Nat.{ℕ, ◌*◌, ◌+◌, ◌-◌}
 use native.Mathlib.Omega.{arith}
 use lib.ListN.{take, drop}
-use borrow.Author.Rules.{rules}
 use Rattle.kinds.specs.declared.geometry.Lone.{Lone}
 use Rattle.geometry_layout.specs.Lone.{lone_in}
 use Rattle.laws.specs.Branch.{is_true}

@@ -1,6 +1,5 @@
 use Prim.Native.Nat.{◌*◌, ◌+◌}
 use native.Mathlib.Omega.{arith}
-use borrow.Author.Rules.{rules}
 use Rattle.geometry_layout.specs.GeometryLaws.{geometry_length}
 use Rattle.geometry_layout.specs.Geometry.{geometry_bytes}
 use Rattle.laws.specs.Runs.{lent_part}

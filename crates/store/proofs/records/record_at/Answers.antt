@@ -3,7 +3,6 @@ use mathlib.Core.Path.{◌≡◌, sym, ap, ◌∙◌}
 use Prim.Native.Nat.{ℕ, ◌*◌, ◌+◌, ◌-◌, ◌/◌}
 use native.Mathlib.Omega.{arith}
 use lib.ListN.{length, take, drop}
-use borrow.Author.Rules.{rules}
 use Rattle.kinds.specs.declared.geometry.Judged.{Judged}
 use Rattle.geometry_layout.specs.Geometry.{read_geometry}
 use Rattle.laws.specs.Branch.{is_true, is_false}

@@ -1,6 +1,5 @@
 use mathlib.Core.Path.{sym, ◌∙◌}
 use Rattle.walks.specs.Lone.{plain_part}
-use borrow.Author.Rules.{rules}
 use Rattle.walks.proofs.lone.lone_part.Goals as goal
 
 pub returns-else-multi : goal.returns-else-multi

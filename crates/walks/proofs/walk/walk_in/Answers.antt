@@ -1,7 +1,6 @@
 use mathlib.Core.Path.{sym, ap, ◌∙◌}
 use Rattle.walks.specs.declared.walk.Role.{Role}
 use Rattle.walks.specs.Walks.{walk_in}
-use borrow.Author.Rules.{rules}
 use Rattle.walks.proofs.walk.walk_in.Goals as goal
 
 pub returns-in-Geometry : goal.returns-in-Geometry

@@ -1,4 +1,3 @@
-use borrow.Author.Rules.{rules}
 use mathlib.Core.Path.{sym, ◌∙◌}
 use Rattle.wkb.specs.Order.{value_big, value_little}
 use Rattle.wkb.proofs.order.u32_at.Goals as goal

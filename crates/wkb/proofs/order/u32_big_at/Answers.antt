@@ -1,4 +1,3 @@
-use borrow.Author.Rules.{rules}
 use native.Mathlib.Omega.{arith}
 use Rattle.laws.specs.Bytes.{four-at}
 use Rattle.wkb.proofs.order.u32_big_at.Goals as goal

@@ -1,4 +1,3 @@
-use borrow.Author.Rules.{rules}
 use native.Mathlib.Omega.{arith}
 use Rattle.wkb.specs.Order.{eight_big}
 use Rattle.wkb.proofs.order.u64_big_at.Goals as goal

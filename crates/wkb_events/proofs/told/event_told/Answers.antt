@@ -2,7 +2,6 @@ use mathlib.Core.Path.{subst}
 use Prim.Native.Nat.{ℕ}
 use lib.Dec.{eqb}
 use Rattle.event_log.specs.Log.{feature_in}
-use borrow.Author.Rules.{rules}
 use Rattle.kinds.specs.declared.event.Event.{Event as Flat}
 use Rattle.wkb_events.specs.Told.{SortedOf}
 use Rattle.wkb_events.proofs.told.event_told.Goals as goal

@@ -2,7 +2,6 @@ use mathlib.Core.Bool.{not}
 use mathlib.Core.Path.{ap}
 use mathlib.Core.Path.{sym, ◌∙◌}
 use borrow.Author.Tests.{not-true, not-false}
-use borrow.Author.Rules.{rules}
 use Rattle.wkb_events.specs.Told.{is-event, no_event, told-by}
 use Rattle.wkb_events.proofs.told.hear.Goals as goal
 

@@ -1,8 +1,6 @@
 use mathlib.Core.Bool.{not}
 use mathlib.Core.Path.{ap}
-use Prim.Native.Nat.{◌-◌}
-use borrow.Author.Rules.{rules}
-use Rattle.wkb_judge.specs.Searched.{Searched, none_searched, one_searched, one-malformed, all_searched}
+use Rattle.wkb_judge.specs.Searched.{none_searched, one_searched, one-malformed, all_searched}
 use Rattle.wkb_judge.proofs.judge.fault.Goals as goal
 
 pub loop-i-init : goal.loop-i-init

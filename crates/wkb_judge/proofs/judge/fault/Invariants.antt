@@ -1,6 +1,5 @@
 use Prim.Native.Nat.{◌-◌}
-use borrow.Author.Rules.{rules}
-use Rattle.wkb_judge.specs.Searched.{Searched, none_searched, one_searched, one-malformed, all_searched}
+use Rattle.wkb_judge.specs.Searched.{Searched}
 use Rattle.wkb_judge.proofs.judge.fault.Given as goal
 
 abbrev pub invariant-loop-i : goal.invariant-loop-i

@@ -1,10 +1,7 @@
-use mathlib.Core.Path.{◌≡◌, refl, sym, subst}
-use mathlib.Core.List.{List}
-use Prim.Native.Nat.{ℕ, ◌+◌, ◌*◌, ◌-◌, ◌/◌, ◌%◌, ◌≤◌, ◌<◌}
+use mathlib.Core.Path.{refl, sym, subst}
+use Prim.Native.Nat.{◌+◌}
 use native.Mathlib.Omega.{arith}
-use lib.ListN.{length, set, length-set}
-use borrow.Author.Rules.{rules}
-use Rattle.event_log.specs.Log.{feature_in, record_of}
+use lib.ListN.{set, length-set}
 use Rattle.wkb_judge.specs.Rows.{part_long}
 use Rattle.wkb_judge.specs.Along.{Along}
 use Rattle.wkb_judge.specs.Inside.{filled, pairs-count}

@@ -1,15 +1,8 @@
-use mathlib.Core.Path.{◌≡◌, refl, sym, subst}
-use mathlib.Core.List.{List}
-use Prim.Native.Nat.{ℕ, ◌+◌, ◌*◌, ◌-◌, ◌/◌, ◌%◌, ◌≤◌, ◌<◌}
-use native.Mathlib.Omega.{arith}
-use lib.ListN.{length, set, length-set}
-use borrow.Author.Rules.{rules}
+use mathlib.Core.Path.{◌≡◌}
+use Prim.Native.Nat.{◌-◌, ◌/◌, ◌≤◌}
+use lib.ListN.{length}
 use Rattle.event_log.specs.Log.{feature_in, record_of}
-use Rattle.wkb_judge.specs.Rows.{part_long}
 use Rattle.wkb_judge.specs.Along.{Along}
-use Rattle.wkb_judge.specs.Inside.{filled, pairs-count}
-use Rattle.wkb_judge.specs.Steps.{told_here, some_open, begun, pair_stops, pair_counts, begin_stops, begin_counts, end_stops, end_counts, strange_stops, malformed_stops, ends_open, ends_sound}
-use Rattle.wkb_events.specs.declared.walk.Walk.{Walk}
 use Rattle.wkb_judge.proofs.judge.judge.Given as goal
 
 abbrev pub invariant-loop-i : goal.invariant-loop-i

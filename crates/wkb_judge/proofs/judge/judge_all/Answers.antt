@@ -1,5 +1,4 @@
 use native.Mathlib.Omega.{arith}
-use borrow.Author.Rules.{rules}
 use Rattle.wkb_judge.specs.Rows.{tail_none}
 use Rattle.wkb_judge.specs.Rising.{pass_as, none_nested}
 use Rattle.wkb_judge.proofs.judge.judge_all.Goals as goal

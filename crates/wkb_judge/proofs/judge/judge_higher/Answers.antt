@@ -1,7 +1,5 @@
-use Prim.Native.Nat.{◌+◌, ◌-◌}
 use native.Mathlib.Omega.{arith}
-use borrow.Author.Rules.{rules}
-use Rattle.wkb_judge.specs.Rising.{Rising, pass_as, first-passed, one-passed, all-passed}
+use Rattle.wkb_judge.specs.Rising.{pass_as, first-passed, one-passed, all-passed}
 use Rattle.wkb_judge.proofs.judge.judge_higher.Goals as goal
 
 pub loop-low-init : goal.loop-low-init

@@ -1,22 +1,24 @@
 use mathlib.Core.Bool.{not}
 use mathlib.Core.Path.{ap}
 use mathlib.Core.Path.{◌≡◌, sym, ◌∙◌, subst}
-use mathlib.Core.List.{List}
 use Prim.Native.Nat.{ℕ, ◌+◌, ◌-◌, ◌/◌, ◌<◌, ◌≤◌}
 use native.Mathlib.Omega.{arith}
 use lib.ListN.{length}
 use borrow.Author.Tests.{not-false}
-use borrow.Author.Rules.{rules}
 use Rattle.event_log.specs.Log.{record_of}
 use Rattle.wkb_judge.specs.Rows.{part_long}
 use Rattle.wkb_events.specs.Told.{Behind}
-use Rattle.wkb_judge.specs.Inside.{PairsFrom, Inside, no_pairs, one_more_pair, none_inside, pair_behind}
+use Rattle.wkb_judge.specs.Inside.{no_pairs, one_more_pair, none_inside, pair_behind}
 use Rattle.wkb_events.specs.declared.told.Told.TheVariants.{Pair}
 use Rattle.wkb_judge.proofs.pairs.pairs_inside.Goals as goal
 
 -- ---- a record is there
 there : (n from last idx next : ℕ) → from ≤ n → last ≤ n - from → idx < last → next ≡ from + idx → next < n
 there n from last idx next a b c d = omega arith
+
+-- ---- nothing before it is past the end
+within : (n from last idx next : ℕ) → from ≤ n → last ≤ n - from → idx ≤ last → next ≡ from + idx → next ≤ n
+within n from last idx next a b c d = omega arith
 
 pub returns-then-not-takes_pair : goal.returns-then-not-takes_pair
 returns-then-not-takes_pair c = none_inside c.requires
@@ -28,10 +30,10 @@ pub loop-idx-init : goal.loop-idx-init
 loop-idx-init c = let a = c.args in (no_pairs a.events.now a.from a.feature, omega arith, omega arith)
 
 pub overflow_mul-begin : goal.overflow_mul-begin
-overflow_mul-begin c = omega (arith, there (length c.args.events.now / 64) c.args.from c.lesser-last.result c.loop-idx.idx c.loop-idx.next c.requires c.lesser-last.ensures.0 c.loop-idx-test.true c.loop-idx.invariant.1)
+overflow_mul-begin c = omega (arith, within (length c.args.events.now / 64) c.args.from c.lesser-last.result c.loop-idx.idx c.loop-idx.next c.requires c.lesser-last.ensures.0 (omega (arith, c.loop-idx-test.true)) c.loop-idx.invariant.1)
 
 pub overflow_add-end : goal.overflow_add-end
-overflow_add-end c = omega (arith, there (length c.args.events.now / 64) c.args.from c.lesser-last.result c.loop-idx.idx c.loop-idx.next c.requires c.lesser-last.ensures.0 c.loop-idx-test.true c.loop-idx.invariant.1)
+overflow_add-end c = omega (arith, within (length c.args.events.now / 64) c.args.from c.lesser-last.result c.loop-idx.idx c.loop-idx.next c.requires c.lesser-last.ensures.0 (omega (arith, c.loop-idx-test.true)) c.loop-idx.invariant.1)
 
 pub slice_bounds-is_pair-count : goal.slice_bounds-is_pair-count
 slice_bounds-is_pair-count c = omega arith
@@ -46,7 +48,7 @@ pub is_pair-requires : goal.is_pair-requires
 is_pair-requires c = part_long c.args.events.now c.loop-idx.next (there (length c.args.events.now / 64) c.args.from c.lesser-last.result c.loop-idx.idx c.loop-idx.next c.requires c.lesser-last.ensures.0 c.loop-idx-test.true c.loop-idx.invariant.1)
 
 pub overflow_add-next : goal.overflow_add-next
-overflow_add-next c = omega (arith, there (length c.args.events.now / 64) c.args.from c.lesser-last.result c.loop-idx.idx c.loop-idx.next c.requires c.lesser-last.ensures.0 c.loop-idx-test.true c.loop-idx.invariant.1)
+overflow_add-next c = omega (arith, within (length c.args.events.now / 64) c.args.from c.lesser-last.result c.loop-idx.idx c.loop-idx.next c.requires c.lesser-last.ensures.0 (omega (arith, c.loop-idx-test.true)) c.loop-idx.invariant.1)
 
 pub overflow_add-idx : goal.overflow_add-idx
 overflow_add-idx c = omega (arith, c.loop-idx-test.true)

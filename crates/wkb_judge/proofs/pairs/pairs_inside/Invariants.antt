@@ -1,15 +1,6 @@
-use mathlib.Core.Path.{◌≡◌, sym, ◌∙◌, subst}
-use mathlib.Core.List.{List}
-use Prim.Native.Nat.{ℕ, ◌+◌, ◌-◌, ◌/◌, ◌<◌, ◌≤◌}
-use native.Mathlib.Omega.{arith}
-use lib.ListN.{length}
-use borrow.Author.Tests.{not-false}
-use borrow.Author.Rules.{rules}
-use Rattle.event_log.specs.Log.{record_of}
-use Rattle.wkb_judge.specs.Rows.{part_long}
-use Rattle.wkb_events.specs.Told.{Behind}
-use Rattle.wkb_judge.specs.Inside.{PairsFrom, Inside, no_pairs, one_more_pair, none_inside, pair_behind}
-use Rattle.wkb_events.specs.declared.told.Told.TheVariants.{Pair}
+use mathlib.Core.Path.{◌≡◌}
+use Prim.Native.Nat.{◌+◌, ◌-◌, ◌≤◌}
+use Rattle.wkb_judge.specs.Inside.{PairsFrom}
 use Rattle.wkb_judge.proofs.pairs.pairs_inside.Given as goal
 
 abbrev pub invariant-loop-idx : goal.invariant-loop-idx

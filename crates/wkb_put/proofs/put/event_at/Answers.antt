@@ -3,10 +3,6 @@ use native.Mathlib.Omega.{arith}
 use Prim.Native.Nat.{ℕ, ◌*◌, ◌+◌, ◌-◌}
 use lib.ListN.{take, drop}
 use Rattle.event_log.specs.Log.{heard}
-use borrow.Author.Rules.{rules}
-use Rattle.wkb_put.proofs.put.event_at.Reads as reads
-use Rattle.wkb_put.proofs.put.event_at.Lts as lts
-use Rattle.event_log.proofs.event_in.Reads as event-in-reads
 use Rattle.wkb_put.proofs.put.event_at.Goals as goal
 
 pub returns : goal.returns

@@ -1,9 +1,7 @@
-use mathlib.Core.Path.{◌≡◌, refl, ◌∙◌}
-use Prim.Native.Nat.{◌+◌, ◌-◌}
+use mathlib.Core.Path.{refl, ◌∙◌}
+use Prim.Native.Nat.{◌+◌}
 use native.Mathlib.Omega.{arith}
-use lib.ListN.{length}
-use borrow.Author.Rules.{rules}
-use Rattle.wkb_put.specs.Put.{around_of, spelled_of}
+use Rattle.wkb_put.specs.Put.{around_of}
 use Rattle.wkb_put.specs.PutLeft.{Left, began, ended, event-room, event_on, pairs-room, pairs_on_lem}
 use Rattle.wkb_put.proofs.put.put_all.Goals as goal
 

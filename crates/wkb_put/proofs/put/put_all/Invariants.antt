@@ -1,10 +1,8 @@
-use mathlib.Core.Path.{◌≡◌, refl, ◌∙◌}
-use Prim.Native.Nat.{◌+◌, ◌-◌}
-use native.Mathlib.Omega.{arith}
+use mathlib.Core.Path.{◌≡◌}
+use Prim.Native.Nat.{◌-◌}
 use lib.ListN.{length}
-use borrow.Author.Rules.{rules}
-use Rattle.wkb_put.specs.Put.{around_of, spelled_of}
-use Rattle.wkb_put.specs.PutLeft.{Left, began, ended, event-room, event_on, pairs-room, pairs_on_lem}
+use Rattle.wkb_put.specs.Put.{around_of}
+use Rattle.wkb_put.specs.PutLeft.{Left}
 use Rattle.wkb_put.proofs.put.put_all.Given as goal
 
 abbrev pub invariant-loop-next : goal.invariant-loop-next

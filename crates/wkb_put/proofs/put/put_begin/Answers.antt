@@ -1,17 +1,8 @@
-use mathlib.Core.Path.{◌≡◌, refl, sym, ap, ◌∙◌}
-use mathlib.Core.List.{◌++◌}
+use mathlib.Core.Path.{refl, sym, ap, ◌∙◌}
 use lib.ListN.{length}
 use native.Mathlib.Omega.{arith}
-use Rattle.laws.specs.Bytes.{le}
 use Rattle.wkb_put.specs.Put.{around_of, laid_of}
-use Rattle.wkb_put.specs.PutEvent.{laid-head, laid-ring, laid-counted, laid-point, laid-pair, laid-nothing, laid_as}
-use borrow.Author.Rules.{rules}
-use Rattle.wkb_put.proofs.put.put_begin.Reads as reads
-use Rattle.wkb_put.proofs.put.put_begin.Lts as lts
-use Rattle.numbers.proofs.put_u32.Reads as put-u32-reads
-use Rattle.wkb_put.proofs.put.Around.is_ring.Reads as is-ring-reads
-use Rattle.wkb_put.proofs.put.put_counted.Reads as put-counted-reads
-use Rattle.wkb_put.proofs.put.put_head.Reads as put-head-reads
+use Rattle.wkb_put.specs.PutEvent.{laid-head, laid-ring, laid-counted, laid_as}
 use Rattle.wkb_put.proofs.put.put_begin.Goals as goal
 
 pub put_head-requires : goal.put_head-requires

@@ -1,17 +1,8 @@
-use mathlib.Core.Path.{◌≡◌, refl, sym, ap, ◌∙◌}
-use mathlib.Core.List.{◌++◌}
+use mathlib.Core.Path.{refl, sym, ap, ◌∙◌}
 use lib.ListN.{length}
 use native.Mathlib.Omega.{arith}
-use Rattle.laws.specs.Bytes.{le}
 use Rattle.wkb_put.specs.Put.{around_of, laid_of}
-use Rattle.wkb_put.specs.PutEvent.{laid-head, laid-ring, laid-counted, laid-point, laid-pair, laid-nothing, laid_as}
-use borrow.Author.Rules.{rules}
-use Rattle.wkb_put.proofs.put.put_event.Reads as reads
-use Rattle.wkb_put.proofs.put.put_event.Lts as lts
-use Rattle.wkb_put.proofs.put.is_begin.Reads as is-begin-reads
-use Rattle.wkb_put.proofs.put.put_begin.Reads as put-begin-reads
-use Rattle.wkb_put.proofs.put.put_pair.Reads as put-pair-reads
-use Rattle.wkb_put.proofs.put.put_point.Reads as put-point-reads
+use Rattle.wkb_put.specs.PutEvent.{laid-point, laid-pair, laid-nothing, laid_as}
 use Rattle.wkb_put.proofs.put.put_event.Goals as goal
 
 pub put_begin-requires : goal.put_begin-requires

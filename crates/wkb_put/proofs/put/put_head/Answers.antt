@@ -3,10 +3,6 @@ use native.Mathlib.Omega.{arith}
 use mathlib.Core.Path.{◌∙◌}
 use Rattle.laws.specs.Bytes.{le}
 use Rattle.wkb_put.specs.PutEvent.{byte_then}
-use borrow.Author.Rules.{rules}
-use Rattle.wkb_put.proofs.put.put_head.Reads as reads
-use Rattle.wkb_put.proofs.put.put_head.Lts as lts
-use Rattle.numbers.proofs.put_u32.Reads as put-u32-reads
 use Rattle.wkb_put.proofs.put.put_head.Goals as goal
 
 pub put_u32-requires : goal.put_u32-requires

@@ -1,10 +1,7 @@
-use mathlib.Core.Path.{◌≡◌, refl, ◌∙◌}
-use Prim.Native.Nat.{◌-◌}
+use mathlib.Core.Path.{refl}
 use native.Mathlib.Omega.{arith}
-use lib.ListN.{length}
 use borrow.Author.Rules.{rules}
-use Rattle.wkb_put.specs.Put.{events_from, run_bytes}
-use Rattle.wkb_put.specs.PutLeft.{RunLeft, run_began, pair-room, run_on, run-stopped, run_ended}
+use Rattle.wkb_put.specs.PutLeft.{run_began, pair-room, run_on, run-stopped, run_ended}
 use Rattle.wkb_put.proofs.put.put_pairs.Goals as goal
 
 pub loop-next-init : goal.loop-next-init

@@ -1,13 +1,6 @@
 use mathlib.Core.Path.{refl}
-use mathlib.Core.List.{◌++◌}
-use Rattle.laws.specs.Bytes.{le}
 use Rattle.laws.specs.Runs.{then}
 use Rattle.wkb_written.specs.Spelling.{head_bytes, pair_of}
-use borrow.Author.Rules.{rules}
-use Rattle.wkb_put.proofs.put.put_point.Reads as reads
-use Rattle.wkb_put.proofs.put.put_point.Lts as lts
-use Rattle.wkb_put.proofs.put.put_head.Reads as put-head-reads
-use Rattle.wkb_put.proofs.put.put_pair.Reads as put-pair-reads
 use Rattle.wkb_put.proofs.put.put_point.Goals as goal
 
 pub returns : goal.returns

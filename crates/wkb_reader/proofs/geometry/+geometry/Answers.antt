@@ -1,8 +1,8 @@
-use Rattle.std.proofs.Common.{rules, refl, subst, arith}
+use Rattle.std.proofs.Common.{rules, refl, arith}
 use Rattle.std.proofs.Math.Nat.{sub-zero, pos_of_ne-zero}
 use Rattle.wkb_reader.specs.Reading.{several, geometry_r}
 use Rattle.wkb_reader.specs.Onward.{began, went_on, broke_off, ended_at}
-use Rattle.wkb_reader.specs.Parts.{HeadIs, grouped, grouped_off, geometry_refused, geometry_deep, geometry_collection, geometry_simple}
+use Rattle.wkb_reader.specs.Parts.{grouped, grouped_off, geometry_refused, geometry_deep, geometry_collection, geometry_simple}
 use Rattle.wkb_reader.proofs.geometry.+geometry.Goals as goal
 
 pub read_collection-loop-i-init : goal.read_collection-loop-i-init

@@ -2,7 +2,6 @@ use Rattle.wkb_reader.specs.Parts.{whole_refused, whole_over, whole_read}
 use Rattle.event_log.specs.Log.{events}
 use Rattle.laws.specs.Cut.{said}
 use native.Mathlib.Omega.{arith}
-use borrow.Author.Rules.{rules}
 use Rattle.wkb_reader.proofs.geometry.read_wkb.Goals as goal
 
 pub returns-then-r-ne-DONE : goal.returns-then-r-ne-DONE

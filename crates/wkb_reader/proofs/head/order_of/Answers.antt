@@ -1,5 +1,4 @@
 use Rattle.wkb_reader.specs.Heads.{order_little}
-use borrow.Author.Rules.{rules}
 use Rattle.wkb_reader.proofs.head.order_of.Goals as goal
 
 pub returns-else-mark-eq0 : goal.returns-else-mark-eq0

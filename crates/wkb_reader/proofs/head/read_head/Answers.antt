@@ -1,7 +1,6 @@
 use Rattle.wkb_reader.specs.Heads.{no_mark, bad_mark, marked-head}
 use mathlib.Core.Path.{refl}
 use native.Mathlib.Omega.{arith}
-use borrow.Author.Rules.{rules}
 use Rattle.wkb_reader.proofs.head.read_head.Goals as goal
 
 pub returns-then-bytes-at : goal.returns-then-bytes-at

@@ -1,6 +1,5 @@
 use Rattle.wkb_reader.specs.Heads.{no_type, other_type, good_type}
 use native.Mathlib.Omega.{arith}
-use borrow.Author.Rules.{rules}
 use Rattle.wkb_reader.proofs.head.read_type.Goals as goal
 
 pub returns-then-least-kind : goal.returns-then-least-kind

@@ -1,7 +1,6 @@
 use Rattle.wkb_reader.specs.Reading.{line_r, pair_r}
 use Rattle.wkb_reader.specs.Parts.{grouped}
 use native.Mathlib.Omega.{arith}
-use borrow.Author.Rules.{rules}
 use Rattle.wkb_reader.proofs.lines.read_line.Goals as goal
 
 pub returns-then-b-ne-DONE : goal.returns-then-b-ne-DONE

@@ -2,7 +2,6 @@ use mathlib.Core.Bool.{false}
 use Rattle.wkb_reader.specs.Reading.{line_r, polygon_r}
 use Rattle.wkb_reader.specs.Parts.{grouped}
 use native.Mathlib.Omega.{arith}
-use borrow.Author.Rules.{rules}
 use Rattle.wkb_reader.proofs.lines.read_polygon.Goals as goal
 
 pub returns-then-b-ne-DONE : goal.returns-then-b-ne-DONE

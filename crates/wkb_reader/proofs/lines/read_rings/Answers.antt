@@ -1,9 +1,7 @@
 use mathlib.Core.Bool.{false}
 use Rattle.wkb_reader.specs.Reading.{line_r, several}
-use Rattle.wkb_reader.specs.Onward.{Left, began, went_on, broke_off, ended}
-use lib.ListN.{length}
-use Prim.Native.Nat.{◌-◌, ◌≤◌}
-use mathlib.Core.Path.{◌≡◌, refl}
+use Rattle.wkb_reader.specs.Onward.{began, went_on, broke_off, ended}
+use mathlib.Core.Path.{refl}
 use native.Mathlib.Nat.{sub-zero}
 use borrow.Author.Rules.{rules}
 use Rattle.wkb_reader.proofs.lines.read_rings.Goals as goal

@@ -1,11 +1,9 @@
 use mathlib.Core.Bool.{false}
 use Rattle.wkb_reader.specs.Reading.{line_r, several}
-use Rattle.wkb_reader.specs.Onward.{Left, began, went_on, broke_off, ended}
+use Rattle.wkb_reader.specs.Onward.{Left}
 use lib.ListN.{length}
 use Prim.Native.Nat.{◌-◌, ◌≤◌}
-use mathlib.Core.Path.{◌≡◌, refl}
-use native.Mathlib.Nat.{sub-zero}
-use borrow.Author.Rules.{rules}
+use mathlib.Core.Path.{◌≡◌}
 use Rattle.wkb_reader.proofs.lines.read_rings.Given as goal
 
 abbrev pub invariant-loop-i : goal.invariant-loop-i

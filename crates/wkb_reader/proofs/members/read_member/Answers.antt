@@ -1,6 +1,5 @@
 use Rattle.wkb_reader.specs.Parts.{HeadIs, member_refused, member-deep, member-read}
 use mathlib.Core.Path.{subst}
-use borrow.Author.Rules.{rules}
 use Rattle.wkb_reader.proofs.members.read_member.Goals as goal
 
 pub returns-then-left-eq0 : goal.returns-then-left-eq0

@@ -1,8 +1,6 @@
 use Rattle.wkb_reader.specs.Reading.{member_r, several}
-use Rattle.wkb_reader.specs.Onward.{Left, began, went_on, broke_off, ended}
-use lib.ListN.{length}
-use Prim.Native.Nat.{◌-◌, ◌≤◌}
-use mathlib.Core.Path.{◌≡◌, refl}
+use Rattle.wkb_reader.specs.Onward.{began, went_on, broke_off, ended}
+use mathlib.Core.Path.{refl}
 use native.Mathlib.Nat.{sub-zero}
 use borrow.Author.Rules.{rules}
 use Rattle.wkb_reader.proofs.members.read_members.Goals as goal

@@ -2,7 +2,6 @@ use Prim.Native.Nat.{◌-◌}
 use Rattle.wkb_reader.specs.Reading.{member_r, multi_r}
 use Rattle.wkb_reader.specs.Parts.{grouped}
 use native.Mathlib.Omega.{arith}
-use borrow.Author.Rules.{rules}
 use Rattle.wkb_reader.proofs.members.read_multi.Goals as goal
 
 pub returns-then-b-ne-DONE : goal.returns-then-b-ne-DONE

@@ -1,6 +1,5 @@
 use Rattle.wkb_reader.specs.Onward.{same_leads}
 use Rattle.wkb_reader.specs.Parts.{part_pair, part_line, part_polygon}
-use borrow.Author.Rules.{rules}
 use Rattle.wkb_reader.proofs.members.read_part.Goals as goal
 
 pub returns-then-single-eq-POINT : goal.returns-then-single-eq-POINT

@@ -1,6 +1,5 @@
 use Rattle.wkb_reader.specs.Parts.{count_cut, begun}
 use native.Mathlib.Omega.{arith}
-use borrow.Author.Rules.{rules}
 use Rattle.wkb_reader.proofs.pairs.read_begin.Goals as goal
 
 pub returns-then-bytes-at-lt4 : goal.returns-then-bytes-at-lt4

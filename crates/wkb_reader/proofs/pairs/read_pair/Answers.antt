@@ -1,6 +1,5 @@
 use Rattle.wkb_reader.specs.Parts.{pair-cut, pair-said}
 use native.Mathlib.Omega.{arith}
-use borrow.Author.Rules.{rules}
 use Rattle.wkb_reader.proofs.pairs.read_pair.Goals as goal
 
 pub returns-then-bytes-at-lt16 : goal.returns-then-bytes-at-lt16

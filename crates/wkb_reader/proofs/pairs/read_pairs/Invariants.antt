@@ -1,10 +1,8 @@
-use Rattle.wkb_reader.specs.Onward.{Left, began, went_on, broke_off, ended}
+use Rattle.wkb_reader.specs.Onward.{Left}
 use Rattle.wkb_reader.specs.Reading.{pair_r, several}
 use lib.ListN.{length}
 use Prim.Native.Nat.{◌-◌, ◌≤◌}
-use mathlib.Core.Path.{◌≡◌, refl}
-use native.Mathlib.Nat.{sub-zero}
-use borrow.Author.Rules.{rules}
+use mathlib.Core.Path.{◌≡◌}
 use Rattle.wkb_reader.proofs.pairs.read_pairs.Given as goal
 
 abbrev pub invariant-loop-i : goal.invariant-loop-i

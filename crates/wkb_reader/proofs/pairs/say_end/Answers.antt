@@ -1,6 +1,5 @@
 use Rattle.wkb_reader.specs.Parts.{not-closed, said-end}
 use mathlib.Core.Path.{refl}
-use borrow.Author.Rules.{rules}
 use Rattle.wkb_reader.proofs.pairs.say_end.Goals as goal
 
 pub returns-then-r-ne-DONE : goal.returns-then-r-ne-DONE

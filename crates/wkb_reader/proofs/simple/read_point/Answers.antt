@@ -1,6 +1,5 @@
 use Rattle.wkb_reader.specs.Parts.{no_point, point-read}
 use native.Mathlib.Omega.{arith}
-use borrow.Author.Rules.{rules}
 use Rattle.wkb_reader.proofs.simple.read_point.Goals as goal
 
 pub returns-then-b-ne-DONE : goal.returns-then-b-ne-DONE

@@ -1,6 +1,5 @@
 use Rattle.wkb_reader.specs.Onward.{same_leads}
 use Rattle.wkb_reader.specs.Parts.{simple_point, simple_line, simple_polygon, simple_multi}
-use borrow.Author.Rules.{rules}
 use Rattle.wkb_reader.proofs.simple.read_simple.Goals as goal
 
 pub returns-then-kind-eq-POINT : goal.returns-then-kind-eq-POINT

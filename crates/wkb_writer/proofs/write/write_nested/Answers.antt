@@ -1,5 +1,4 @@
 use native.Mathlib.Omega.{arith}
-use borrow.Author.Rules.{rules}
 use Rattle.wkb_writer.specs.Does.{heard_as, deep_does, no_room_does, room_for, all_does}
 use Rattle.wkb_writer.proofs.write.write_nested.Goals as goal
 

@@ -1,4 +1,3 @@
-use borrow.Author.Rules.{rules}
 use Rattle.wkb_writer.specs.Does.{judged_as, malformed_does, not_nested_does}
 use Rattle.wkb_writer.proofs.write.write_wkb.Goals as goal
 

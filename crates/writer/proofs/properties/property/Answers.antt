@@ -1,5 +1,4 @@
 use mathlib.Core.Path.{ap}
-use borrow.Author.Rules.{rules}
 use Rattle.property_writer.specs.declared.PropertyPut.{PropertyPut}
 use Rattle.writer.specs.Property.{counted, property_call, property_place}
 use Rattle.writer.proofs.properties.property.Goals as goal

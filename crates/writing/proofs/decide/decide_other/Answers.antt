@@ -1,8 +1,7 @@
 use mathlib.Core.Bool.{not}
 use mathlib.Core.Path.{ap}
-use mathlib.Core.Path.{◌≡◌, sym, ◌∙◌}
+use mathlib.Core.Path.{sym, ◌∙◌}
 use mathlib.Core.Bool.{true}
-use borrow.Author.Rules.{rules}
 use Rattle.laws.specs.Branch.{is_true, is_false}
 use Rattle.laws.specs.Every.{both}
 use Rattle.writing.specs.Feature.{belongs}

@@ -1,5 +1,4 @@
 use mathlib.Core.Bool.{false}
-use borrow.Author.Rules.{rules}
 use Rattle.writing.specs.declared.feature.Feature.TheVariants.{Open}
 use Rattle.writing.specs.Calls.{renewed as spec-renewed}
 use Rattle.writing.proofs.decide.renewed.Goals as goal

@@ -1,5 +1,4 @@
 use native.Mathlib.Omega.{arith}
-use borrow.Author.Rules.{rules}
 use Rattle.laws.specs.Cond.{if_so, if_not}
 use Rattle.pending.specs.Room.{grown_fits}
 use Rattle.writing.specs.Calls.{state_after}

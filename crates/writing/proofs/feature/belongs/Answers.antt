@@ -1,5 +1,4 @@
 use mathlib.Core.Path.{sym, ap}
-use borrow.Author.Rules.{rules}
 use Rattle.writing.specs.declared.feature.Feature.{Feature}
 use Rattle.writing.specs.Feature.{belongs}
 use Rattle.writing.proofs.feature.belongs.Goals as goal

@@ -1,4 +1,3 @@
-use borrow.Author.Rules.{rules}
 use Rattle.writing.proofs.ready.is_ready.Goals as goal
 
 pub returns : goal.returns

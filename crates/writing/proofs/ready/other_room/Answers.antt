@@ -1,4 +1,3 @@
-use borrow.Author.Rules.{rules}
 use Rattle.writing.proofs.ready.other_room.Goals as goal
 
 pub returns : goal.returns

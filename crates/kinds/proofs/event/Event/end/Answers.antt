@@ -1,5 +1,4 @@
 use mathlib.Core.Path.{refl}
-use borrow.Author.Rules.{rules}
 use Rattle.kinds.specs.Event.{end_e}
 use Rattle.kinds.proofs.event.Event.end.Goals as goal
 

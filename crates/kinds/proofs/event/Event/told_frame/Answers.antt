@@ -1,5 +1,4 @@
 use mathlib.Core.Path.{refl, sym, ◌∙◌}
-use borrow.Author.Rules.{rules}
 use Rattle.laws.specs.Cond.{if_so, if_not}
 use Rattle.kinds.proofs.event.Event.told_frame.Goals as goal
 

@@ -1,5 +1,4 @@
 use Rattle.kinds.specs.Flags.{flags_of}
-use borrow.Author.Rules.{rules}
 use Rattle.kinds.proofs.flags.Flags.of.Goals as goal
 
 pub returns : goal.returns

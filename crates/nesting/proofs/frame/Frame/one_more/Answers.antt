@@ -1,5 +1,4 @@
 use native.Mathlib.Omega.{arith}
-use borrow.Author.Rules.{rules}
 use Rattle.nesting.specs.Taking.{more-is}
 use Rattle.nesting.proofs.frame.Frame.one_more.Goals as goal
 

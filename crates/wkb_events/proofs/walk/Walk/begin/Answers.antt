@@ -1,5 +1,4 @@
 use native.Mathlib.Omega.{arith}
-use borrow.Author.Rules.{rules}
 use Rattle.wkb_events.specs.Walk.{begin-moved}
 use Rattle.wkb_events.proofs.walk.Walk.begin.Goals as goal
 

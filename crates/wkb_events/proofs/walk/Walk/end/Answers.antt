@@ -1,5 +1,4 @@
 use native.Mathlib.Omega.{arith}
-use borrow.Author.Rules.{rules}
 use Rattle.wkb_events.specs.Walk.{end_moved}
 use Rattle.wkb_events.proofs.walk.Walk.end.Goals as goal
 

@@ -1,6 +1,5 @@
 use mathlib.Core.Path.{sym, ap}
 use mathlib.Core.Bool.{Bool, cond}
-use borrow.Author.Rules.{rules}
 use Rattle.wkb_events.specs.Walk.{pairs_are}
 use Rattle.wkb_events.proofs.walk.Walk.pairs.Goals as goal
 

@@ -1,6 +1,5 @@
 use mathlib.Core.Bool.{not}
 use mathlib.Core.Path.{ap}
-use borrow.Author.Rules.{rules}
 use Rattle.laws.specs.Branch.{is_true, is_false}
 use Rattle.wkb_put.specs.Put.{around_of}
 use Rattle.wkb_put.specs.PutEvent.{later_begun, later_same}
