@@ -1,7 +1,4 @@
-use mathlib.Core.Path.{◌≡◌}
 use native.Mathlib.Omega.{arith}
-use lib.ListN.{length}
-use borrow.Author.Rules.{rules}
 use Rattle.cases.proofs.main.Goals as goal
 
 pub loop-turns-smaller : goal.loop-turns-smaller
