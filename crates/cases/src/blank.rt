@@ -1,5 +1,7 @@
 // Memory for all cases. Each comes from a function of its own, because a proof that has a long list of zeros before it counts them one
 // by one.
+use std::alloc::{AllocError, Global};
+
 const FRAME_BYTES: usize = 300000;
 
 // A little more than is usable.
@@ -29,6 +31,7 @@ pub fn ends() -> [u32; ENDS] {
     [0; ENDS]
 }
 
-pub fn memory() -> [u8; LOG_BYTES] {
-    [0; LOG_BYTES]
+// On the heap, since the stack has no room for it beside the rest.
+pub fn memory(alloc: Global) -> Result<Vec<u8>, AllocError> {
+    vec![in alloc; 0u8; LOG_BYTES]
 }

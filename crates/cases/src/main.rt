@@ -4,6 +4,7 @@
 mod blank;
 
 use replay::{Next, Tally, first, number, tally};
+use std::alloc::AllocError;
 
 // The sorts of cases. A tree has readings of the four from WHOLE on, each a case of its own.
 const HEARD: usize = 0;
@@ -94,12 +95,12 @@ fn report(counted: &Tally) {
 }
 
 // Nothing says that the input ends, so the turns are counted down from a number that no list uses up.
-fn main() {
+fn main(rt: HostRuntime) -> Result<(), AllocError> {
     let mut frame = blank::frame();
     let mut table = blank::table();
     let mut words = blank::words();
     let mut ends = blank::ends();
-    let mut memory = blank::memory();
+    let mut memory = blank::memory(rt.alloc())?;
     let mut counted = tally::NONE;
     let mut turns = u64::MAX;
     while turns > 0 {
@@ -118,4 +119,5 @@ fn main() {
         );
     }
     report(&counted);
+    Ok(())
 }
