@@ -139,15 +139,17 @@ function look_up_name(word) {
         fault("no " quoted(word) " in " (file == "" ? "crate " quoted(crate) : quoted("crates/" crate "/specs/" file ".antt")))
 }
 
-# A word with an underscore, behind a crate: an edit, unless the crate has such a function, constant or module, or its specs/ or proofs/ such
-# a definition or theorem.
+# A word with an underscore, behind a crate: an edit, unless the crate has such a function, constant or module, or the file that was named
+# last, or else the crate, such a definition or theorem.
 function look_up_edit(word) {
     if ((crate, word) in edits)
         name_edit(word)
-    else if ((crate, word) in of_crate || (crate, word) in member_names || (crate, word) in spec_names)
+    else if ((crate, word) in of_crate || (crate, word) in member_names || (file == "" ? (crate, word) in spec_names : (crate, file, word) in names))
         counts["names"]++
-    else
+    else if (file == "")
         fault("no edit, function or definition " quoted(word) " in crate " quoted(crate))
+    else
+        fault("no " quoted(word) " in " quoted("crates/" crate "/specs/" file ".antt"))
 }
 function name_edit(word) {
     counts["edits"]++
@@ -306,7 +308,7 @@ function look_up_text(text, strict,    count, each, i, word, piece, size, in_bra
 # ---- what holds a difference: a theorem of `format` that computes it, or of the crate in brackets behind it
 function look_up_held_by(text,    rest, word, of) {
     rest = text
-    while (match(rest, /`[a-z0-9-]+`( \([a-z_]+\))?/)) {
+    while (match(rest, /`[a-z0-9_-]+`( \([a-z_]+\))?/)) {
         word = substr(rest, RSTART + 1, RLENGTH - 1)
         rest = substr(rest, RSTART + RLENGTH)
         of = word
