@@ -53,11 +53,12 @@ fn without_counts(names: &[String]) -> Vec<String> {
 #[test]
 fn a_call_has_the_same_arguments_everywhere() {
     let (header, link) = (text_of("include/bintolage.h"), text_of("rust/src/link.rs"));
-    let library = text_of("crates/bintolage/src/lib.rt");
+    let (library, exports) = (text_of("crates/bintolage/src/lib.rt"), text_of("crates/bintolage_c/src/lib.rt"));
     for call in CALLS {
         let names = in_header(&header, call);
         assert_eq!(before_colons(&link, call), names, "{call}, in rust/src/link.rs and in the header");
         assert_eq!(before_colons(&library, call), without_counts(&names), "{call}, in the crate and in the header");
+        assert_eq!(before_colons(&exports, call), without_counts(&names), "{call}, as it is exported and in the header");
     }
 }
 
