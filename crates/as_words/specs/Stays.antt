@@ -1,5 +1,5 @@
 -- The calls keep a state's three bytes bytes, so the words that a call leaves hold the very state that it hands back.
-use Rattle.std.specs.Prelude.{◌≡◌, cond, ◌&&◌, ◌||◌, List, ℕ, ◌+◌, ◌≤◌, ◌<◌, ltb, leb}
+use Rattle.std.specs.Prelude.{◌≡◌, cond, ◌&&◌, ◌||◌, List, ℕ, ◌+◌, ◌≤◌, ◌<◌, ltb, leb, Some, None}
 use Rattle.std.proofs.Math.Path.{refl, sym}
 use Rattle.std.proofs.Common.{◌∙◌, arith, ltb-true, eqb-true}
 use Rattle.std.proofs.Math.Bool.{Bool, true, false, not}
@@ -7,20 +7,16 @@ use Rattle.std.proofs.Math.Dec.{eqb}
 use Rattle.std.proofs.lemmas.Bool.{eqb-false}
 use Rattle.kinds.specs.Event.{is_tagged_type, Parsed, WellFormed, Malformed}
 use Rattle.kinds.specs.declared.event.Event.{Event}
-use Rattle.kinds.specs.declared.geometry.Lent.{Lent}
+use Rattle.kinds.specs.Lanes.{Lent}
 use Rattle.store.specs.Lists.{lent_of}
 use Rattle.store.specs.Records.{records_lent}
 use Rattle.event_log.specs.Log.{heard, feature_in, record_of, records_in}
 use Rattle.asking.specs.declared.typing.Typing.{Typing}
-use Rattle.asking.specs.declared.set_type.Typed.{Typed}
-use Rattle.asking.specs.declared.set_type.Typed.TheVariants.{Set, Mixed}
-use Rattle.asking.specs.declared.ask.Added.{Added}
+use Rattle.asking.specs.SetType.{Typed, with_declared, with_current, with_mode, promoted, detected, detected_or, unknown_type, collected, lifts, set_type}
+use Rattle.asking.specs.Ask.{Added, ask, no_words, begun, calmed, in_collection, ask_of}
 use Rattle.asking.specs.declared.ask.Ask.{Ask}
-use Rattle.asking.specs.SetType.{with_declared, with_current, with_mode, promoted, detected, detected_or, unknown_type, collected, lifts, set_type}
-use Rattle.asking.specs.Ask.{ask, no_words, begun, calmed, in_collection, ask_of}
 use Rattle.writing.specs.declared.state.State.{State}
-use Rattle.writing.specs.declared.state.Wrote.{Wrote}
-use Rattle.writing.specs.State.{Mem, wrote}
+use Rattle.writing.specs.State.{Wrote, Mem, wrote}
 use Rattle.pending.specs.Room.{has_room}
 use Rattle.writing.specs.Due.{each-due}
 use Rattle.writing.specs.Calls.{started, records_for, state_after, room_or, decide_typed, decide_event, event_with, event_of, event_call, finished, decide_finish, finish_call, renewed, decide_next, next_call}
@@ -30,8 +26,8 @@ use Rattle.as_words.specs.WordLaws.{InBytes, state-words, done-state, refused_st
 
 -- ---- what an event asks for
 abbrev InBytesIfSet : Typed → Type 0
-InBytesIfSet Mixed = Unit {0}
-InBytesIfSet (Set h) = InBytes h
+InBytesIfSet None = Unit {0}
+InBytesIfSet (Some h) = InBytes h
 
 either : {A : Type 0} (P : A → Type 0) (b : Bool) (x y : A) → P x → P y → P (cond b x y)
 either P true x y h k = h
@@ -63,20 +59,20 @@ collected-bytes h type bytes small = either InBytes (eqb h.mode 1) _ h (current-
 set-bytes : (h : Typing) (type : ℕ) → InBytes h → type + 3 < 256 → InBytesIfSet (set_type h type)
 unfolding set_type
 set-bytes h type bytes small =
-    either InBytesIfSet (eqb type h.declared) (Set h) _ bytes
-    (either InBytesIfSet (eqb h.declared 0) (Set (collected (unknown_type h type) type)) _ (collected-bytes _ type (unknown_bytes h type bytes small) (omega arith))
-    (either InBytesIfSet (eqb h.declared 7 && eqb h.mode 1) (Set (with_current h type)) _ (current-bytes h bytes type (omega arith))
-    (either InBytesIfSet (lifts h type) (Set (with_mode h 2)) Mixed (mode_bytes h bytes 2 (omega arith)) tt)))
+    either InBytesIfSet (eqb type h.declared) (Some h) _ bytes
+    (either InBytesIfSet (eqb h.declared 0) (Some (collected (unknown_type h type) type)) _ (collected-bytes _ type (unknown_bytes h type bytes small) (omega arith))
+    (either InBytesIfSet (eqb h.declared 7 && eqb h.mode 1) (Some (with_current h type)) _ (current-bytes h bytes type (omega arith))
+    (either InBytesIfSet (lifts h type) (Some (with_mode h 2)) None (mode_bytes h bytes 2 (omega arith)) tt)))
 
 collection_bytes : (o : Typed) → InBytesIfSet o → InBytesIfSet (in_collection o)
-collection_bytes Mixed h = tt
-collection_bytes (Set h) bytes = mode_bytes h bytes 1 (omega arith)
+collection_bytes None h = tt
+collection_bytes (Some h) bytes = mode_bytes h bytes 1 (omega arith)
 
 module _ (h : Typing) (e : Event) (bytes : InBytes h) where
   begun-bytes : e.kind < 32 → InBytesIfSet (begun h e)
   unfolding begun
   begun-bytes small =
-      either InBytesIfSet (is_tagged_type e.kind && not e.tagged) (Set h) _ bytes
+      either InBytesIfSet (is_tagged_type e.kind && not e.tagged) (Some h) _ bytes
       (either InBytesIfSet (eqb e.kind 7) _ _ (collection_bytes (set_type h 7) (set-bytes h 7 bytes (omega arith))) (set-bytes h e.kind bytes (omega arith)))
 
   calmed-bytes : InBytes (calmed h e.tagged)
@@ -123,8 +119,8 @@ module _ (s : State) (bytes : Bytes s) where
   after-bytes n typed added false h k = k
 
   typed-bytes : (n : ℕ) (a : Ask) (room : Bool) (o : Typed) → InBytesIfSet o → Bytes (decide_typed s n a room o).state
-  typed-bytes n a room Mixed h = bytes
-  typed-bytes n a room (Set g) h = room-bytes room (state_after s n a g) (after-bytes n a.typed a.added a.part g h)
+  typed-bytes n a room None h = bytes
+  typed-bytes n a room (Some g) h = room-bytes room (state_after s n a g) (after-bytes n a.typed a.added a.part g h)
 
   decided-bytes : (n : ℕ) (a : Ask) (records : ℕ) (pools : Lent) → InBytesIfSet a.typed → Bytes (decide_event s n a records pools).state
   unfolding decide_event

@@ -1,13 +1,12 @@
 -- A state that is kept in words is the state.
-use Rattle.std.specs.Prelude.{◌≡◌, refl, Bool, true, false, List, ℕ, ◌+◌, ◌*◌, ◌≤◌, ◌<◌}
+use Rattle.std.specs.Prelude.{◌≡◌, refl, Bool, true, false, List, ℕ, ◌+◌, ◌*◌, ◌≤◌, ◌<◌, Some, None}
 use Rattle.std.proofs.Common.{sym, ap, ◌∙◌, arith, eq-eqb, ne_eqb}
 use Rattle.kinds.specs.Event.{bit_set}
-use Rattle.runs.specs.declared.took.Took.{Took}
+use Rattle.runs.specs.Events.{Took}
 use Rattle.asking.specs.declared.typing.Typing.{Typing}
-use Rattle.writing.specs.declared.feature.Feature.{Feature}
-use Rattle.writing.specs.declared.feature.Feature.TheVariants.{Open, Numbered}
+use Rattle.writing.specs.Feature.{Feature}
 use Rattle.writing.specs.declared.state.State.{State}
-use Rattle.writing.specs.declared.state.Wrote.{Wrote}
+use Rattle.writing.specs.State.{Wrote}
 use Rattle.as_words.specs.Words.{byte_of, typing_of, feature_by, pending_of, state_of, is_numbered, number_of, mark, head_of, words_of_pending, words_of, words_after, words_after_all}
 
 pub mark_most : {r : ℕ} (on : Bool) (bit : ℕ) → r ≡ mark on bit → r ≤ bit
@@ -57,8 +56,8 @@ each-mark false false false false = (refl, refl, refl, refl)
 
 -- ---- a number that is held comes back, and so does none
 feature_back : (f : Feature) → feature_by (is_numbered f) (number_of f) ≡ f
-feature_back Open = refl
-feature_back (Numbered n) = refl
+feature_back None = refl
+feature_back (Some n) = refl
 
 -- ---- a state's three bytes are bytes, as those of a value of its type are
 pub record InBytes (h : Typing) : Type 0 where

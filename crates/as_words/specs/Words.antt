@@ -1,14 +1,13 @@
 -- SPEC 6.2, 6.3: a writer's state as words, 0 the typing and marks, 1 the parts, 2 the property bytes, 3 the feature's number, then start and count of each pending list.
-use Rattle.std.specs.Prelude.{Bool, true, false, cond, List, [], ◌∷◌, ℕ, ◌+◌, ◌*◌, ◌/◌, ◌%◌, eqb, get_or}
+use Rattle.std.specs.Prelude.{Bool, true, false, cond, List, [], ◌∷◌, ℕ, ◌+◌, ◌*◌, ◌/◌, ◌%◌, eqb, get_or, Some, None}
 use Rattle.kinds.specs.Event.{bit_set}
 use Rattle.asking.specs.declared.typing.Typing.{Typing}
 use Rattle.pending.specs.declared.words.Words.{Words}
-use Rattle.pending.specs.declared.words.Pending.{Pending}
-use Rattle.writing.specs.declared.feature.Feature.{Feature}
-use Rattle.writing.specs.declared.feature.Feature.TheVariants.{Open, Numbered}
+use Rattle.pending.specs.Words.{Pending}
+use Rattle.writing.specs.Feature.{Feature}
 use Rattle.writing.specs.declared.state.State.{State}
-use Rattle.runs.specs.declared.took.Took.{Took}
-use Rattle.writing.specs.declared.state.Wrote.{Wrote}
+use Rattle.runs.specs.Events.{Took}
+use Rattle.writing.specs.State.{Wrote}
 
 -- ---- a state from any words: spare bits are not looked at
 
@@ -38,7 +37,7 @@ pending_of words = record { xy = list_at words 4; ends = list_at words 6; z = li
 
 -- where no number is held, the word for it is not looked at
 abbrev pub feature_by : Bool → ℕ → Feature
-feature_by numbered number = cond numbered (Numbered number) Open
+feature_by numbered number = cond numbered (Some number) None
 
 unfoldable pub state_of : List ℕ → State
 state_of words =
@@ -60,13 +59,13 @@ unfoldable pub head_of : Typing → Bool → Bool → ℕ
 head_of h waiting numbered = h.declared + 256 * h.current + 65536 * h.mode + 16777216 * (mark h.detect 1 + mark h.promote 2 + mark waiting 4 + mark numbered 8)
 
 abbrev pub is_numbered : Feature → Bool
-is_numbered Open = false
-is_numbered (Numbered n) = true
+is_numbered None = false
+is_numbered (Some n) = true
 
 -- 0 where none is held
 abbrev pub number_of : Feature → ℕ
-number_of Open = 0
-number_of (Numbered n) = n
+number_of None = 0
+number_of (Some n) = n
 
 -- a pending list's two words, and those behind them
 abbrev pub list_then : Words → List ℕ → List ℕ

@@ -1,18 +1,22 @@
 // A writer's state as words, so that a caller in another language can keep it.
-ghost use Rattle.std.specs.Prelude.{◌≡◌, ◌<◌};
-ghost use Rattle.as_words.specs.Words.{byte_of, typing_of, feature_by, pending_of, state_of, is_numbered, number_of, mark, head_of, words_of, words_after, words_after_all};
+ghost use Rattle.std.specs.Prelude.{◌≡◌, ◌+◌, ◌<◌};
+ghost use Rattle.kinds.specs.Refusal.{answer_of};
+ghost use Rattle.writing.specs.State.{wrote_of};
+ghost use Rattle.runs.specs.Events.{took_of};
+ghost use Rattle.as_words.specs.Words.{typing_of, list_at, feature_by, pending_of, state_of, is_numbered, number_of, mark, head_of, words_of, words_after, words_after_all};
 
 use asking::typing::Typing;
 use kinds::event::bit_set;
-use kinds::refusal;
+use kinds::lanes::Lanes;
+use kinds::refusal::{Refusal, answer_number};
 use pending::words::{Pending, Words};
 use runs::Took;
-use writing::feature::Feature;
-use writing::state::{State, Wrote};
+use writing::state::State;
 
 // How many words a state has. The header and the Rust wrapper have this number once each, too.
 pub const STATE_WORDS: usize = 16;
 
+// These words are the C interface's: a caller may put any in them.
 pub type StateWords = [u32; STATE_WORDS];
 
 // Where a state counts the parts of the feature in hand, and the property bytes.
@@ -23,13 +27,16 @@ pub const PROPERTIES: usize = 2;
 // Where it has the number of the feature in hand, if there is one.
 const FEATURE: usize = 3;
 
-// What each byte of the first word counts for there; the highest holds the marks.
-const CURRENT: u32 = 256;
+// Which byte of the first word is what.
+const DECLARED: usize = 0;
 
-const MODE: u32 = 65536;
+const CURRENT: usize = 1;
 
-const MARKS: u32 = 16777216;
+const MODE: usize = 2;
 
+const MARKS: usize = 3;
+
+// The marks are bits of that byte, as C has them.
 pub const DETECT: u8 = 1;
 
 pub const PROMOTE: u8 = 2;
@@ -38,124 +45,90 @@ const WAITING: u8 = 4;
 
 const NUMBERED: u8 = 8;
 
-fn byte_of(word: u32, unit: u32) -> u8
-    requires { 0 < unit }
-    ensures { result ≡ byte_of word unit }
-{
-    (word / unit % 256) as u8
-}
-
+#[tactic(auto, unfolding(crate::specs::Words::typing_of))]
 fn typing_of(head: u32) -> Typing
     ensures { result ≡ typing_of head }
 {
-    let marks = byte_of(head, MARKS);
+    let bytes = head.to_le_bytes();
+    let marks = bytes[MARKS];
     Typing {
-        declared: byte_of(head, 1),
+        declared: bytes[DECLARED],
         detect: bit_set(marks, DETECT),
         promote: bit_set(marks, PROMOTE),
-        current: byte_of(head, CURRENT),
-        mode: byte_of(head, MODE),
+        current: bytes[CURRENT],
+        mode: bytes[MODE],
     }
 }
 
 // The type that is declared, or the first that was detected.
+#[tactic(auto, unfolding(crate::specs::Words::typing_of, crate::specs::Words::state_of))]
 pub fn declared_of(words: &StateWords) -> u8
     ensures { result ≡ (state_of words.now).typing.declared }
 {
-    byte_of(words[0], 1)
+    words[0].to_le_bytes()[DECLARED]
 }
 
-fn feature_by(numbered: bool, number: u32) -> Feature
+fn feature_by(numbered: bool, number: u32) -> Option<u32>
     ensures { result ≡ feature_by numbered number }
 {
-    if numbered {
-        Feature::Numbered(number)
-    } else {
-        Feature::Open
+    if numbered { Some(number) } else { None }
+}
+
+fn list_at(words: &StateWords, at: usize) -> Words
+    requires { at + 1 < 16 }
+    ensures { result ≡ list_at words.now at }
+{
+    Words {
+        start: words[at],
+        count: words[at + 1],
     }
 }
 
-fn pending_of(words: StateWords) -> Pending
-    ensures { result ≡ pending_of words }
+#[tactic(auto, unfolding(crate::specs::Words::pending_of))]
+fn pending_of(words: &StateWords) -> Pending
+    ensures { result ≡ pending_of words.now }
 {
-    Pending {
-        xy: Words {
-            start: words[4],
-            count: words[5],
-        },
-        ends: Words {
-            start: words[6],
-            count: words[7],
-        },
-        z: Words {
-            start: words[8],
-            count: words[9],
-        },
-        m: Words {
-            start: words[10],
-            count: words[11],
-        },
-        t: Words {
-            start: words[12],
-            count: words[13],
-        },
-        tm: Words {
-            start: words[14],
-            count: words[15],
-        },
+    Lanes {
+        xy: list_at(words, 4),
+        ends: list_at(words, 6),
+        z: list_at(words, 8),
+        m: list_at(words, 10),
+        t: list_at(words, 12),
+        tm: list_at(words, 14),
     }
 }
 
-pub fn state_of(words: StateWords) -> State
-    ensures { result ≡ state_of words }
+#[tactic(auto, unfolding(crate::specs::Words::state_of))]
+pub fn state_of(words: &StateWords) -> State
+    ensures { result ≡ state_of words.now }
 {
-    let head = words[0];
-    let marks = byte_of(head, MARKS);
-    let typing = typing_of(head);
-    let feature = feature_by(bit_set(marks, NUMBERED), words[FEATURE]);
-    let pending = pending_of(words);
+    let marks = words[0].to_le_bytes()[MARKS];
     State {
-        typing,
+        typing: typing_of(words[0]),
         waiting: bit_set(marks, WAITING),
         parts: words[PARTS],
         properties: words[PROPERTIES],
-        feature,
-        pending,
-    }
-}
-
-fn mark(on: bool, bit: u8) -> u32
-    ensures { result ≡ mark on bit }
-{
-    if on { bit as u32 } else { 0 }
-}
-
-fn is_numbered(feature: Feature) -> bool
-    ensures { result ≡ is_numbered feature }
-{
-    match feature {
-        Feature::Open => false,
-        Feature::Numbered(_) => true,
-    }
-}
-
-// 0 where no feature is in hand.
-fn number_of(feature: Feature) -> u32
-    ensures { result ≡ number_of feature }
-{
-    match feature {
-        Feature::Open => 0,
-        Feature::Numbered(n) => n,
+        feature: feature_by(bit_set(marks, NUMBERED), words[FEATURE]),
+        pending: pending_of(words),
     }
 }
 
 // The number of the feature in hand, 0 where there is none.
+#[tactic(auto, unfolding(crate::specs::Words::state_of))]
 pub fn feature_of(words: &StateWords) -> u32
     ensures { result ≡ number_of (state_of words.now).feature }
 {
-    number_of(feature_by(bit_set(byte_of(words[0], MARKS), NUMBERED), words[FEATURE]))
+    let marks = words[0].to_le_bytes()[MARKS];
+    feature_by(bit_set(marks, NUMBERED), words[FEATURE]).unwrap_or(0)
 }
 
+fn mark(on: bool, bit: u8) -> u8
+    ensures { result ≡ mark on bit }
+{
+    if on { bit } else { 0 }
+}
+
+#[tactic(auto, unfolding(crate::specs::Words::head_of))]
 fn head_of(typing: Typing, waiting: bool, numbered: bool) -> u32
     ensures { result ≡ head_of typing waiting numbered }
 {
@@ -163,21 +136,19 @@ fn head_of(typing: Typing, waiting: bool, numbered: bool) -> u32
         + mark(typing.promote, PROMOTE)
         + mark(waiting, WAITING)
         + mark(numbered, NUMBERED);
-    (typing.declared as u32)
-        + CURRENT * (typing.current as u32)
-        + MODE * (typing.mode as u32)
-        + MARKS * marks
+    u32::from_le_bytes([typing.declared, typing.current, typing.mode, marks])
 }
 
+// Word by word as the header has them, so that each stands beside its place.
+#[tactic(auto, unfolding(crate::specs::Words::words_of, crate::specs::Words::words_of_pending))]
 pub fn words_of(s: State) -> StateWords
     ensures { result ≡ words_of s }
 {
-    let feature = s.feature;
     [
-        head_of(s.typing, s.waiting, is_numbered(feature)),
+        head_of(s.typing, s.waiting, s.feature.is_some()),
         s.parts,
         s.properties,
-        number_of(feature),
+        s.feature.unwrap_or(0),
         s.pending.xy.start,
         s.pending.xy.count,
         s.pending.ends.start,
@@ -194,28 +165,31 @@ pub fn words_of(s: State) -> StateWords
 }
 
 // Keeps the state that a call handed back, and gives its number. A refusal leaves the words as they were.
-pub fn keep(words: &mut StateWords, wrote: Wrote) -> u8
-    ensures value { result ≡ wrote.number }
-    ensures words_after { words.new ≡ words_after words.old wrote }
+#[tactic(auto, unfolding(crate::specs::Words::words_after))]
+pub fn keep(words: &mut StateWords, wrote: Result<State, Refusal>) -> u8
+    ensures value { result ≡ answer_of wrote }
+    ensures words_after { (s : State) → words.new ≡ words_after words.old (wrote_of s wrote) }
 {
-    if wrote.number == refusal::DONE {
-        let after = words_of(wrote.state);
-        *words = after;
+    match wrote {
+        Ok(after) => {
+            *words = words_of(after);
+            0
+        }
+        Err(refusal) => refusal.number(),
     }
-    wrote.number
 }
 
 // Keeps the state after the events that were taken, tells how many they were, and gives the number. Where none was, the words stay
 // as they were.
+#[tactic(auto, unfolding(crate::specs::Words::words_after_all))]
 pub fn keep_all(words: &mut StateWords, count: &mut usize, took: Took) -> u8
-    ensures value { result ≡ took.number }
+    ensures value { result ≡ answer_of took.answer }
     ensures count_after { count.new ≡ took.taken }
-    ensures words_after { words.new ≡ words_after_all words.old took }
+    ensures words_after { words.new ≡ words_after_all words.old (took_of took) }
 {
     *count = took.taken;
     if took.taken != 0 {
-        let after = words_of(took.state);
-        *words = after;
+        *words = words_of(took.state);
     }
-    took.number
+    answer_number(&took.answer)
 }

@@ -1,24 +1,20 @@
 -- SPEC 6.7 to 6.13: what an event asks for, a typing, words for some of the pools, perhaps a finished part.
-use Rattle.std.specs.Prelude.{◌≡◌, refl, Bool, true, false, cond, not, ◌&&◌, ◌||◌, ℕ, ◌<◌, leb, ltb, eqb}
+use Rattle.std.specs.Prelude.{◌≡◌, refl, Bool, true, false, cond, not, ◌&&◌, ◌||◌, ℕ, ◌<◌, leb, ltb, eqb, Some, None}
 use Rattle.std.proofs.lemmas.Bool.{lt-leb}
 use Rattle.kinds.specs.Event.{is_tagged_type, bit_set}
-use Rattle.kinds.specs.Lanes.{Lane, xyL, endsL, zL, mL, tL, tmL}
+use Rattle.kinds.specs.Lanes.{Lane, lane}
+use Rattle.kinds.specs.declared.lanes.Lanes.{Lanes}
 use Rattle.kinds.specs.declared.event.Event.{Event}
 use Rattle.asking.specs.declared.typing.Typing.{Typing}
-use Rattle.asking.specs.declared.set_type.Typed.{Typed}
-use Rattle.asking.specs.declared.set_type.Typed.TheVariants.{Set, Mixed}
-use Rattle.asking.specs.declared.ask.Added.{Added}
 use Rattle.asking.specs.declared.ask.Ask.{Ask}
-use Rattle.asking.specs.SetType.{with_mode, set_type}
+use Rattle.asking.specs.SetType.{Typed, with_mode, set_type}
 
 -- ---- the pools that it adds words to
+abbrev pub Added : Type 0
+Added = Lanes Bool
+
 abbrev pub adds_to : Added → Lane → Bool
-adds_to a xyL = a.xy
-adds_to a endsL = a.ends
-adds_to a zL = a.z
-adds_to a mL = a.m
-adds_to a tL = a.t
-adds_to a tmL = a.tm
+adds_to a n = lane a n
 
 abbrev pub no_words : Added
 no_words = record { xy = false; ends = false; z = false; m = false; t = false; tm = false }
@@ -39,13 +35,13 @@ calmed h tagged = cond (tagged && eqb h.mode 2) (with_mode h 0) h
 
 -- a collection's begin sets its type, and then the mode
 abbrev pub in_collection : Typed → Typed
-in_collection Mixed = Mixed
-in_collection (Set h) = Set (with_mode h 1)
+in_collection None = None
+in_collection (Some h) = Some (with_mode h 1)
 
 -- the begins of lines, polygons and triangles set the type only where they are tagged
 unfoldable pub begun : Typing → Event → Typed
 begun h e =
-    cond (is_tagged_type e.kind && not e.tagged) (Set h)
+    cond (is_tagged_type e.kind && not e.tagged) (Some h)
     (cond (eqb e.kind 7) (in_collection (set_type h 7)) (set_type h e.kind))
 
 -- an end goes down if the line is untagged or in ForceMulti
@@ -59,12 +55,12 @@ collects h = eqb h.mode 1
 unfoldable pub ask_of : Typing → Event → Ask
 ask_of h e =
     cond (ltb e.kind 32) (ask (begun h e) no_words false)
-    (cond (leb 64 e.kind) (ask (Set h) (pair_with e.present) false)
-    (cond (eqb e.kind 33) (ask (Set h) no_words (collects h))
-    (cond (eqb e.kind 34) (ask (Set (calmed h e.tagged)) (end_if (pushes_end h e.tagged)) (collects h))
-    (cond (eqb e.kind 35) (ask (Set (calmed h e.tagged)) no_words (pushes_end h e.tagged || collects h))
-    (cond (eqb e.kind 39) (ask (Set (with_mode h 0)) no_words false)
-    (ask (Set h) no_words false))))))
+    (cond (leb 64 e.kind) (ask (Some h) (pair_with e.present) false)
+    (cond (eqb e.kind 33) (ask (Some h) no_words (collects h))
+    (cond (eqb e.kind 34) (ask (Some (calmed h e.tagged)) (end_if (pushes_end h e.tagged)) (collects h))
+    (cond (eqb e.kind 35) (ask (Some (calmed h e.tagged)) no_words (pushes_end h e.tagged || collects h))
+    (cond (eqb e.kind 39) (ask (Some (with_mode h 0)) no_words false)
+    (ask (Some h) no_words false))))))
 
 -- ---- a begin or an end adds to the ends at most
 abbrev pub OnlyEnds : Ask → Type 0

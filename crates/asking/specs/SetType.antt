@@ -1,16 +1,18 @@
 -- SPEC 6.8, 6.9, the Rust's set_type: for every declared byte, detect, promote, mode and type. Mode 0 is Normal, 1 GeometryCollection, 2 ForceMulti.
-use Rattle.std.specs.Prelude.{Bool, cond, not, ◌&&◌, ◌||◌, ℕ, ◌+◌, eqb}
+use Rattle.std.specs.Prelude.{Bool, cond, not, ◌&&◌, ◌||◌, ℕ, ◌+◌, eqb, Option, Some, None}
 use Rattle.asking.specs.declared.typing.Typing.{Typing}
-use Rattle.asking.specs.declared.set_type.Typed.{Typed}
-use Rattle.asking.specs.declared.set_type.Typed.TheVariants.{Set, Mixed}
 
 abbrev pub typing : ℕ → Bool → Bool → ℕ → ℕ → Typing
 typing declared detect promote current mode = record { declared = declared; detect = detect; promote = promote; current = current; mode = mode }
 
+-- the typing after a type was set; none where the type does not go with the declared one
+abbrev pub Typed : Type 0
+Typed = Option Typing
+
 -- the number for each case: done, or 5 (SPEC 6.8)
 abbrev pub typed_number : Typed → ℕ
-typed_number (Set h) = 0
-typed_number Mixed = 5
+typed_number (Some h) = 0
+typed_number None = 5
 
 abbrev pub with_declared : Typing → ℕ → Typing
 with_declared h declared = record { declared = declared; detect = h.detect; promote = h.promote; current = h.current; mode = h.mode }
@@ -46,7 +48,7 @@ lifts h type = promoted h type && eqb h.declared (type + 3) && not (eqb h.mode 1
 
 unfoldable pub set_type : Typing → ℕ → Typed
 set_type h type =
-    cond (eqb type h.declared) (Set h)
-    (cond (eqb h.declared 0) (Set (collected (unknown_type h type) type))
-    (cond (eqb h.declared 7 && eqb h.mode 1) (Set (with_current h type))
-    (cond (lifts h type) (Set (with_mode h 2)) Mixed)))
+    cond (eqb type h.declared) (Some h)
+    (cond (eqb h.declared 0) (Some (collected (unknown_type h type) type))
+    (cond (eqb h.declared 7 && eqb h.mode 1) (Some (with_current h type))
+    (cond (lifts h type) (Some (with_mode h 2)) None)))

@@ -1,40 +1,31 @@
 // What an event asks for.
-ghost use Rattle.std.specs.Prelude.{◌≡◌, true, false, ◌||◌, ◌<◌};
-ghost use Rattle.asking.specs.declared.set_type.Typed.TheVariants.{Set, Mixed};
+ghost use Rattle.std.specs.Prelude.{◌≡◌, true, false, ◌||◌, ◌<◌, Some};
 ghost use Rattle.asking.specs.SetType.{with_mode};
 ghost use Rattle.asking.specs.Ask.{no_words, end_if, pair_with, ask, calmed, in_collection, begun, pushes_end, collects, ask_of};
 
-use crate::set_type::{Typed, set_type};
+use crate::set_type::set_type;
 use crate::typing::Typing;
 use kinds::event::{Event, bit_set};
 use kinds::flags::Flags;
+use kinds::lanes::Lanes;
 
 // The pools that an event adds words to: two to xy, one to each other.
-#[derive(Clone, Copy)]
-pub struct Added {
-    pub xy: bool,
-    pub ends: bool,
-    pub z: bool,
-    pub m: bool,
-    pub t: bool,
-    pub tm: bool,
-}
+pub type Added = Lanes<bool>;
 
-impl Added {
-    pub const NONE: Added = Added {
-        xy: false,
-        ends: false,
-        z: false,
-        m: false,
-        t: false,
-        tm: false,
-    };
-}
+pub const NO_WORDS: Added = Lanes {
+    xy: false,
+    ends: false,
+    z: false,
+    m: false,
+    t: false,
+    tm: false,
+};
 
-// What an event asks for: the typing after it, the words that it adds, and whether it then finishes a part.
-#[derive(Clone, Copy)]
+// What an event asks for: the typing after it, or None where its type does not go with the declared one; the words that it adds; and
+// whether it then finishes a part.
+#[derive(Clone, Copy, Debug, PartialEq, Eq)]
 pub struct Ask {
-    pub typed: Typed,
+    pub typed: Option<Typing>,
     pub added: Added,
     pub part: bool,
 }
@@ -62,23 +53,21 @@ fn calmed(typing: Typing, tagged: bool) -> Typing
     }
 }
 
-fn in_collection(typed: Typed) -> Typed
+fn in_collection(typed: Option<Typing>) -> Option<Typing>
     ensures { result ≡ in_collection typed }
 {
-    match typed {
-        Typed::Mixed => Typed::Mixed,
-        Typed::Set(typing) => Typed::Set(typing.with_mode(Typing::GEOMETRY_COLLECTION)),
-    }
+    typed.map(|typing| typing.with_mode(Typing::GEOMETRY_COLLECTION))
 }
 
 // The begins of lines, polygons and triangles set the type only where they are tagged.
-fn begun(typing: Typing, e: Event) -> Typed
+#[tactic(auto, unfolding(crate::specs::Ask::begun))]
+fn begun(typing: Typing, e: Event) -> Option<Typing>
     requires { e.kind < 32 }
     ensures { result ≡ begun typing e }
 {
     let kind = e.kind;
     if e.is_quiet() {
-        return Typed::Set(typing);
+        return Some(typing);
     }
     if kind == Event::GEOMETRY_COLLECTION_BEGIN {
         in_collection(set_type(typing, kind))
@@ -94,7 +83,7 @@ fn begin(typing: Typing, e: Event) -> Ask
     let typed = begun(typing, e);
     Ask {
         typed,
-        added: Added::NONE,
+        added: NO_WORDS,
         part: false,
     }
 }
@@ -103,7 +92,7 @@ fn begin(typing: Typing, e: Event) -> Ask
 pub fn pair_with(present: u8) -> Added
     ensures { result ≡ pair_with present }
 {
-    Added {
+    Lanes {
         xy: true,
         ends: false,
         z: bit_set(present, Flags::Z),
@@ -114,67 +103,64 @@ pub fn pair_with(present: u8) -> Added
 }
 
 fn point_end(typing: Typing) -> Ask
-    ensures { result ≡ ask (Set typing) no_words (collects typing) }
+    ensures { result ≡ ask (Some typing) no_words (collects typing) }
 {
-    let typed = Typed::Set(typing);
+    let typed = Some(typing);
     Ask {
         typed,
-        added: Added::NONE,
+        added: NO_WORDS,
         part: collects(typing),
     }
 }
 
 fn linestring_end(typing: Typing, tagged: bool) -> Ask
-    ensures { result ≡ ask (Set (calmed typing tagged)) (end_if (pushes_end typing tagged)) (collects typing) }
+    ensures { result ≡ ask (Some (calmed typing tagged)) (end_if (pushes_end typing tagged)) (collects typing) }
 {
-    let typed = Typed::Set(calmed(typing, tagged));
-    let added = Added {
-        xy: false,
+    let typed = Some(calmed(typing, tagged));
+    let added = Lanes {
         ends: pushes_end(typing, tagged),
-        z: false,
-        m: false,
-        t: false,
-        tm: false,
+        ..NO_WORDS
     };
     let part = collects(typing);
     Ask { typed, added, part }
 }
 
 fn polygon_end(typing: Typing, tagged: bool) -> Ask
-    ensures { result ≡ ask (Set (calmed typing tagged)) no_words (pushes_end typing tagged || collects typing) }
+    ensures { result ≡ ask (Some (calmed typing tagged)) no_words (pushes_end typing tagged || collects typing) }
 {
-    let typed = Typed::Set(calmed(typing, tagged));
+    let typed = Some(calmed(typing, tagged));
     Ask {
         typed,
-        added: Added::NONE,
+        added: NO_WORDS,
         part: pushes_end(typing, tagged) | collects(typing),
     }
 }
 
 fn geometrycollection_end(typing: Typing) -> Ask
-    ensures { result ≡ ask (Set (with_mode typing 0)) no_words false }
+    ensures { result ≡ ask (Some (with_mode typing 0)) no_words false }
 {
-    let typed = Typed::Set(typing.with_mode(Typing::NORMAL));
+    let typed = Some(typing.with_mode(Typing::NORMAL));
     Ask {
         typed,
-        added: Added::NONE,
+        added: NO_WORDS,
         part: false,
     }
 }
 
 // The ends that FeatureWriter does not override.
 fn nothing(typing: Typing) -> Ask
-    ensures { result ≡ ask (Set typing) no_words false }
+    ensures { result ≡ ask (Some typing) no_words false }
 {
-    let typed = Typed::Set(typing);
+    let typed = Some(typing);
     Ask {
         typed,
-        added: Added::NONE,
+        added: NO_WORDS,
         part: false,
     }
 }
 
 // What a begin or an end asks for.
+#[tactic(auto, unfolding(crate::specs::Ask::ask_of))]
 pub fn ask_of(typing: Typing, e: Event) -> Ask
     requires { e.kind < 64 }
     ensures { result ≡ ask_of typing e }

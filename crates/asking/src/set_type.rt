@@ -5,13 +5,6 @@ ghost use Rattle.asking.specs.SetType.{promoted, detected, detected_or, unknown_
 use crate::typing::Typing;
 use kinds::geometry_type;
 
-// A type that was set, or that does not go with the declared one.
-#[derive(Clone, Copy)]
-pub enum Typed {
-    Set(Typing),
-    Mixed,
-}
-
 // From a type to its multi type.
 const TO_MULTI: u8 = 3;
 
@@ -44,6 +37,7 @@ fn detected_or(typing: Typing, kind: u8) -> Typing
     }
 }
 
+#[tactic(auto, unfolding(crate::specs::SetType::unknown_type))]
 fn unknown_type(typing: Typing, kind: u8) -> Typing
     requires { kind < 32 }
     ensures { result ≡ unknown_type typing kind }
@@ -56,6 +50,7 @@ fn unknown_type(typing: Typing, kind: u8) -> Typing
 }
 
 // Inside a collection the current type is the part's.
+#[tactic(auto, unfolding(crate::specs::SetType::collected))]
 fn collected(typing: Typing, kind: u8) -> Typing
     ensures { result ≡ collected typing kind }
 {
@@ -76,24 +71,26 @@ fn lifts(typing: Typing, kind: u8) -> bool
         & !(typing.mode == Typing::GEOMETRY_COLLECTION)
 }
 
-pub fn set_type(typing: Typing, kind: u8) -> Typed
+// None where the type does not go with the declared one.
+#[tactic(auto, unfolding(crate::specs::SetType::set_type))]
+pub fn set_type(typing: Typing, kind: u8) -> Option<Typing>
     requires { kind < 32 }
     ensures { result ≡ set_type typing kind }
 {
     if kind == typing.declared {
-        return Typed::Set(typing);
+        return Some(typing);
     }
     if typing.declared == geometry_type::UNKNOWN {
-        return Typed::Set(collected(unknown_type(typing, kind), kind));
+        return Some(collected(unknown_type(typing, kind), kind));
     }
     if (typing.declared == geometry_type::GEOMETRY_COLLECTION)
         & (typing.mode == Typing::GEOMETRY_COLLECTION)
     {
-        return Typed::Set(typing.with_current(kind));
+        return Some(typing.with_current(kind));
     }
     if lifts(typing, kind) {
-        Typed::Set(typing.with_mode(Typing::FORCE_MULTI))
+        Some(typing.with_mode(Typing::FORCE_MULTI))
     } else {
-        Typed::Mixed
+        None
     }
 }

@@ -2,7 +2,8 @@
 ghost use Rattle.std.specs.Prelude.{◌≡◌};
 ghost use Rattle.asking.specs.SetType.{with_declared, with_current, with_mode};
 
-#[derive(Clone, Copy)]
+// Types and mode are bytes and no enums: they stand among the state words that a C caller owns, where any byte has to come back as it was.
+#[derive(Clone, Copy, Debug, PartialEq, Eq)]
 pub struct Typing {
     pub declared: u8,
     pub detect: bool,
@@ -22,24 +23,18 @@ impl Typing {
     pub fn with_declared(self, declared: u8) -> Typing
         ensures { result ≡ with_declared self declared }
     {
-        let mut typing = self;
-        typing.declared = declared;
-        typing
+        Typing { declared, ..self }
     }
 
     pub fn with_current(self, current: u8) -> Typing
         ensures { result ≡ with_current self current }
     {
-        let mut typing = self;
-        typing.current = current;
-        typing
+        Typing { current, ..self }
     }
 
     pub fn with_mode(self, mode: u8) -> Typing
         ensures { result ≡ with_mode self mode }
     {
-        let mut typing = self;
-        typing.mode = mode;
-        typing
+        Typing { mode, ..self }
     }
 }

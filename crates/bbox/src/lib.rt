@@ -52,13 +52,11 @@ impl Box {
     pub fn empty() -> Self
         ensures { result ≡ beginning }
     {
-        let plus_infinity = f64::from_bits(0x7ff0_0000_0000_0000);
-        let minus_infinity = f64::from_bits(0xfff0_0000_0000_0000);
         Self {
-            least_x: plus_infinity,
-            least_y: plus_infinity,
-            greatest_x: minus_infinity,
-            greatest_y: minus_infinity,
+            least_x: f64::INFINITY,
+            least_y: f64::INFINITY,
+            greatest_x: f64::NEG_INFINITY,
+            greatest_y: f64::NEG_INFINITY,
         }
     }
 
@@ -79,11 +77,10 @@ impl Box {
     pub fn widened_by(self, words: &[u64]) -> Self
         ensures { result ≡ box_from self words.now }
     {
+        let (pairs, _) = words.as_chunks::<2>();
         let mut around = self;
-        let mut i = 0;
-        while i + 1 < words.len() {
-            around = around.widened(words[i], words[i + 1]);
-            i += 2;
+        for &[x, y] in pairs {
+            around = around.widened(x, y);
         }
         around
     }

@@ -23,16 +23,20 @@ ghost use Rattle.as_words.specs.Words.{state_of, words_of, words_after};
 ghost use Rattle.bintolage.specs.Calls.{yes, one, kept, kept_of, taken as taken_with, taken_of};
 
 use as_words::state::{StateWords, keep, keep_all, state_of, words_of};
-use bbox::edges_of;
-use kinds::event::Bare;
+use bbox::{Box, edges_of};
+use event_log::{Events, Log};
+use kinds::event::Xy;
 use kinds::flags::Flags;
+use kinds::refusal::answer_number;
+use pools::PoolsMut;
+use property_writer::Property;
+use store::{Pools, Store};
 
 // A writer's first state. 0 is no, all else yes.
 pub fn bintolage_start(state: &mut StateWords, declared: u8, detect: u8, promote: u8)
     ensures { state.new ≡ words_of (started declared (yes detect) (yes promote)) }
 {
-    let first = words_of(writer::start(declared, detect != 0, promote != 0));
-    *state = first;
+    *state = words_of(writer::start(declared, detect != 0, promote != 0));
 }
 
 // Takes an event's record. Refused: 11, 15, 17, 5, 12.
@@ -52,15 +56,21 @@ pub fn bintolage_event(
         let words = state.old in
         kept result state.new after ≡ kept_of words (event_call (state_of words) before event.now) }
 {
-    let before = *state;
+    let mut pools = PoolsMut {
+        xy,
+        ends,
+        z,
+        m,
+        t,
+        tm,
+    };
     // A pair by itself is the commonest call, and with a keep of its own the state's words are packed in registers.
-    let bare = event_log::hear_bare(event);
-    if let Bare::Pair { x, y } = bare {
+    if let Some(Xy { x, y }) = event_log::hear_bare(event) {
         let n = event_log::feature_in(event);
-        let wrote = writer::pair(state_of(before), n, x, y, table, xy, ends, z, m, t, tm);
+        let wrote = writer::pair(state_of(state), n, x, y, table, &mut pools);
         return keep(state, wrote);
     }
-    let taken = writer::event(state_of(before), event, table, xy, ends, z, m, t, tm);
+    let taken = writer::event(state_of(state), event, table, &mut pools);
     keep(state, taken)
 }
 
@@ -82,8 +92,15 @@ pub fn bintolage_events(
         let words = state.old in
         taken_with result taken.new state.new after ≡ taken_of words (events_call (state_of words) before events.now) }
 {
-    let before = *state;
-    let took = many::events(state_of(before), events, table, xy, ends, z, m, t, tm);
+    let mut pools = PoolsMut {
+        xy,
+        ends,
+        z,
+        m,
+        t,
+        tm,
+    };
+    let took = many::events(state_of(state), events, table, &mut pools);
     keep_all(state, taken, took)
 }
 
@@ -106,11 +123,22 @@ pub fn bintolage_property(
         buffer.new ≡ bytes_after s.waiting s.properties column column_type bits text.now buffer.old }
     ensures place { place.new ≡ property_place (state_of state.old) column column_type bits text.now buffer.old }
 {
-    let before = *state;
-    let put = writer::property(state_of(before), column, column_type, bits, text, buffer);
-    *place = put.place;
-    let wrote = put.wrote;
-    keep(state, wrote)
+    let property = Property {
+        column,
+        kind: column_type,
+        bits,
+        text,
+    };
+    match writer::property(state_of(state), property, buffer) {
+        Ok(after) => {
+            *place = 0;
+            keep(state, Ok(after))
+        }
+        Err(refused) => {
+            *place = refused.place();
+            keep(state, Err(refused.refusal()))
+        }
+    }
 }
 
 // Lays the feature's root down, and has it wait. Refused: 15, 12.
@@ -129,8 +157,15 @@ pub fn bintolage_finish(
         let words = state.old in
         kept result state.new after ≡ kept_of words (finish_call (state_of words) before) }
 {
-    let before = *state;
-    let finished = writer::finish(state_of(before), table, xy, ends, z, m, t, tm);
+    let pools = Pools {
+        xy,
+        ends,
+        z,
+        m,
+        t,
+        tm,
+    };
+    let finished = writer::finish(state_of(state), table, &pools);
     keep(state, finished)
 }
 
@@ -150,8 +185,15 @@ pub fn bintolage_next(
         let words = state.old in
         kept result state.new after ≡ kept_of words (next_call (state_of words) before) }
 {
-    let before = *state;
-    let renewed = writer::next(state_of(before), table, xy, ends, z, m, t, tm);
+    let mut pools = PoolsMut {
+        xy,
+        ends,
+        z,
+        m,
+        t,
+        tm,
+    };
+    let renewed = writer::next(state_of(state), table, &mut pools);
     keep(state, renewed)
 }
 
@@ -174,21 +216,19 @@ pub fn bintolage_read(
         let script = read_s (flags_of flags) (record_with table.now P) declared in
         Said (event_records feature) script log.old result count.new log.new }
 {
-    let read = reader::read(
-        table,
+    let pools = Pools {
         xy,
         ends,
         z,
         m,
         t,
         tm,
-        declared,
-        Flags::of(flags),
-        feature,
-        log,
-    );
-    *count = read.count as u32;
-    read.number
+    };
+    let store = Store { table, pools };
+    let mut said = Log::new(log, Events { feature });
+    let read = reader::read(&store, declared, Flags::of(flags), &mut said);
+    *count = said.count() as u32;
+    answer_number(&read)
 }
 
 // Well-known binary as events from the log's start, each under the feature's number, and how many. Refused: at each field 18, then 19; 13
@@ -196,9 +236,10 @@ pub fn bintolage_read(
 pub fn bintolage_read_wkb(bytes: &[u8], feature: u32, log: &mut [u8], count: &mut u32) -> u8
     ensures { Said (event_records feature) (reading_r bytes.now) log.old result count.new log.new }
 {
-    let read = wkb_reader::read_wkb(bytes, feature, log);
-    *count = read.count as u32;
-    read.number
+    let mut said = Log::new(log, Events { feature });
+    let read = wkb_reader::read_wkb(bytes, &mut said);
+    *count = said.count() as u32;
+    answer_number(&read)
 }
 
 // Events' records, which are one geometry's, as little-endian well-known binary from the start of `out` on, and how many bytes: none where it
@@ -208,8 +249,8 @@ pub fn bintolage_write_wkb(events: &[u8], out: &mut [u8], written: &mut usize) -
         Did due out.old result written.new out.new }
 {
     let wrote = wkb_writer::write_wkb(events, out);
-    *written = wrote.length;
-    wrote.number
+    *written = wrote.unwrap_or(0);
+    answer_number(&wrote)
 }
 
 // The values of property bytes, as value records from the log's start, how many, and whether the reading stopped after the named column
@@ -232,11 +273,21 @@ pub fn bintolage_read_properties(
     ensures place { let bad = bad_in bytes.now (yes has_columns) columns.now stop in
         place.new ≡ placed result bad }
 {
-    let read = property_reader::read_properties(bytes, has_columns != 0, columns, stop, log);
+    let columns = (has_columns != 0).then_some(columns);
+    let read = property_reader::read_properties(bytes, columns, stop, log);
     *count = read.count as u32;
-    *stopped = read.stopped as u8;
-    *place = read.place;
-    read.number
+    match read.stopped {
+        Ok(early) => {
+            *stopped = u8::from(early);
+            *place = 0;
+            0
+        }
+        Err(refused) => {
+            *stopped = 0;
+            *place = refused.place();
+            refused.refusal().number()
+        }
+    }
 }
 
 // The box of record n, over its own pairs and then each part's, as bit patterns. Refused: 13, 10, with the beginning box.
@@ -255,8 +306,15 @@ pub fn bintolage_box(
         let boxed = box_of (record_with table.now P) n in
         (result ≡ boxed.number) × (edges.new ≡ edges_of boxed.bbox) }
 {
-    let boxed = record_box::box_at(table, xy, ends, z, m, t, tm, n as usize);
-    let bits = edges_of(boxed.bbox);
-    *edges = bits;
-    boxed.number
+    let pools = Pools {
+        xy,
+        ends,
+        z,
+        m,
+        t,
+        tm,
+    };
+    let boxed = record_box::box_at(&Store { table, pools }, n as usize);
+    *edges = edges_of(boxed.unwrap_or(Box::empty()));
+    answer_number(&boxed)
 }

@@ -1,123 +1,73 @@
-// Runs the store, property bytes, the geometry reader and that of well-known binary on the cases of standard input, and counts what differs.
+//! Runs the store, property bytes, the geometry reader and that of well-known binary on the cases of standard input, and counts what
+//! differs.
 #![tactic(auto)]
 
-mod blank;
+mod sort;
 
-use replay::{Next, Tally, first, number, tally};
-use std::alloc::AllocError;
+use crate::sort::Sort;
+use reader_cases::{Reading, Tree, lay_tree, read};
+use replay::{Differences, Fields, Memory, Program, Tally};
+use std::io;
 
-// The sorts of cases. A tree has readings of the four from WHOLE on, each a case of its own.
-const HEARD: usize = 0;
+const LONGEST_FRAME: usize = 300000;
 
-const SAID: usize = 1;
+#[derive(Drop)]
+struct Readers {
+    memory: Memory,
+}
 
-const RECORD: usize = 2;
+impl Program for Readers {
+    type Sort = Sort;
 
-const BOX: usize = 3;
-
-const READ: usize = 4;
-
-const WRITTEN: usize = 5;
-
-const WHOLE: usize = 6;
-
-const CUT: usize = 7;
-
-const BAD: usize = 8;
-
-const LARGE: usize = 9;
-
-const WKB: usize = 10;
-
-const TREE: usize = WHOLE;
+    fn answer(&mut self, rt: &impl Print, case: &[u8], tally: &mut Tally<Sort>) -> io::Result<()> {
+        let mut fields = Fields::new(case);
+        let sort = Sort::of_number(fields.number());
+        match sort {
+            Some(Sort::Whole) => answer_tree(rt, case, fields, &mut self.memory, tally),
+            _ => tally.count(rt, sort, differences(sort, fields, &mut self.memory)),
+        }
+    }
+}
 
 // What differs in a case that is no tree.
-fn differences(
-    case: &[u8],
-    table: &mut [u8],
-    words: &mut [u64],
-    ends: &[u32],
-    memory: &mut [u8],
-) -> u8 {
-    match number(case, 0) {
-        HEARD => store_cases::events::heard(case),
-        SAID => store_cases::events::said(case, memory),
-        RECORD => store_cases::records::judged(case, memory),
-        BOX => store_cases::boxes::boxed(case, table, words, ends),
-        READ => property_cases::read(case, memory),
-        WRITTEN => property_cases::written(case, memory),
-        WKB => wkb_cases::read(case, memory),
-        _ => replay::difference::CASE,
+fn differences(sort: Option<Sort>, case: Fields<'_>, memory: &mut Memory) -> Differences {
+    match sort {
+        Some(Sort::Heard) => store_cases::heard(case),
+        Some(Sort::Said) => store_cases::said(case, &mut memory.bytes),
+        Some(Sort::Record) => store_cases::judged(case, &mut memory.bytes),
+        Some(Sort::Boxed) => store_cases::boxed(case, memory),
+        Some(Sort::Read) => property_cases::read(case, &mut memory.bytes),
+        Some(Sort::Written) => property_cases::written(case, &mut memory.bytes),
+        Some(Sort::WellKnownBinary) => wkb_cases::read(case, &mut memory.bytes),
+        _ => Differences::CASE,
     }
 }
 
-fn answer(
-    case: &[u8],
-    table: &mut [u8],
-    words: &mut [u64],
-    ends: &mut [u32],
-    memory: &mut [u8],
-    tally: &mut Tally,
-) {
-    let sort = number(case, 0);
-    if sort == TREE {
-        reader_cases::read_tree(case, table, words, ends, memory, tally);
-    } else {
-        tally::count(tally, sort, differences(case, table, words, ends, memory));
-    }
-}
-
-fn report_store(counted: &Tally) {
-    tally::print_sort(counted, HEARD, b"events heard");
-    tally::print_sort(counted, SAID, b"events said to a log");
-    tally::print_sort(counted, RECORD, b"geometry records");
-    tally::print_sort(counted, BOX, b"boxes");
-}
-
-fn report_properties(counted: &Tally) {
-    tally::print_sort(counted, READ, b"property lists read");
-    tally::print_sort(counted, WRITTEN, b"properties written");
-}
-
-fn report_readings(counted: &Tally) {
-    tally::print_sort(counted, WHOLE, b"trees read whole");
-    tally::print_sort(counted, CUT, b"trees cut by a short log");
-    tally::print_sort(counted, BAD, b"bad records and tables");
-    tally::print_sort(counted, LARGE, b"large trees");
-}
-
-fn report(counted: &Tally) {
-    report_store(counted);
-    report_properties(counted);
-    report_readings(counted);
-    tally::print_sort(counted, WKB, b"well-known binary read");
-    tally::print_total(counted);
-}
-
-// Nothing says that the input ends, so the turns are counted down from a number that no list uses up.
-fn main(rt: HostRuntime) -> Result<(), AllocError> {
-    let mut frame = blank::frame();
-    let mut table = blank::table();
-    let mut words = blank::words();
-    let mut ends = blank::ends();
-    let mut memory = blank::memory(rt.alloc())?;
-    let mut counted = tally::NONE;
-    let mut turns = u64::MAX;
-    while turns > 0 {
-        turns -= 1;
-        let Next::Case(length) = replay::next_case(&mut frame, &mut counted) else {
-            break;
+// Counts each reading of a tree.
+fn answer_tree<'a>(
+    rt: &impl Print,
+    case: &'a [u8],
+    mut fields: Fields<'a>,
+    memory: &mut Memory,
+    tally: &mut Tally<Sort>,
+) -> io::Result<()> {
+    let tree = Tree::new(case, &mut fields);
+    let is_laid = lay_tree(&tree, memory);
+    for _ in 0..fields.number() {
+        let reading = Reading::new(&mut fields);
+        let differences = read(&tree, reading, memory);
+        let differences = Differences {
+            case: differences.case || !is_laid,
+            ..differences
         };
-        let case = first(&frame, length);
-        answer(
-            case,
-            &mut table,
-            &mut words,
-            &mut ends,
-            &mut memory,
-            &mut counted,
-        );
+        tally.count(rt, Sort::of_number(reading.sort), differences)?;
     }
-    report(&counted);
     Ok(())
+}
+
+fn main(rt: HostRuntime) -> io::Result<()> {
+    let mut readers = Readers {
+        memory: Memory::new(rt.alloc())?,
+    };
+    replay::run(&rt, &Sort::ALL, LONGEST_FRAME, &mut readers)
 }

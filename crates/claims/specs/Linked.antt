@@ -12,8 +12,7 @@ use Rattle.event_log.specs.Log.{heard, feature_in, record_of, records_in}
 use Rattle.property_writer.specs.Writing.{put_of}
 use Rattle.properties.specs.RoundTrip.{Property}
 use Rattle.writing.specs.declared.state.State.{State}
-use Rattle.writing.specs.declared.state.Wrote.{Wrote}
-use Rattle.writing.specs.State.{Mem, Outcome}
+use Rattle.writing.specs.State.{Mem, Outcome, Wrote}
 use Rattle.writing.specs.Calls.{started, event_call, finish_call, next_call}
 use Rattle.runs.specs.Events.{Progress, events_from, events_call, by-records}
 use Rattle.writer.specs.Property.{property_call}

@@ -1,16 +1,14 @@
 -- SPEC 6.28, 11.22, over any row of the calls that a machine links: the number that is in hand is that of the event that was accepted last, none at first and after next; and every event that was accepted since start or the last next has it.
-use Rattle.std.specs.Prelude.{◌≡◌, Bool, true, false, cond, List, [], ◌∷◌, ◌++◌, ℕ, suc, ◌+◌, eqb}
+use Rattle.std.specs.Prelude.{◌≡◌, Bool, true, false, cond, List, [], ◌∷◌, ◌++◌, ℕ, suc, ◌+◌, eqb, Some, None}
 use Rattle.std.proofs.Math.Path.{refl, sym, ap}
 use Rattle.std.proofs.Common.{◌∙◌, arith, eqb-true}
 use Rattle.std.proofs.lemmas.Bool.{eqb-false}
 use Rattle.kinds.specs.Event.{Parsed, WellFormed, Malformed}
 use Rattle.kinds.specs.declared.event.Event.{Event}
 use Rattle.event_log.specs.Log.{heard, feature_in, record_of, records_in}
-use Rattle.writing.specs.declared.feature.Feature.{Feature}
-use Rattle.writing.specs.declared.feature.Feature.TheVariants.{Open, Numbered}
 use Rattle.writing.specs.declared.state.State.{State}
 use Rattle.writing.specs.State.{Mem, Outcome}
-use Rattle.writing.specs.Feature.{belongs}
+use Rattle.writing.specs.Feature.{belongs, Feature}
 use Rattle.writing.specs.Calls.{started, event_of, event_call, finish_call, next_call}
 use Rattle.runs.specs.Events.{Progress, events_from, events_call, by-records}
 use Rattle.writer.specs.Property.{property_call}
@@ -27,39 +25,39 @@ use Rattle.claims.specs.Linked.{call_state, put-state, untaken_state}
 -- ---- which feature is in hand after steps, and that each event on the way belonged to the one in hand
 abbrev pub in_hand : Feature → List Step → Feature
 in_hand f [] = f
-in_hand f (took n e ∷ steps) = in_hand (Numbered n) steps
+in_hand f (took n e ∷ steps) = in_hand (Some n) steps
 in_hand f (finished ∷ steps) = in_hand f steps
-in_hand f (renewed ∷ steps) = in_hand Open steps
+in_hand f (renewed ∷ steps) = in_hand None steps
 
 abbrev pub AllBelong : Feature → List Step → Type 0
 AllBelong f [] = Unit {0}
-AllBelong f (took n e ∷ steps) = (belongs f n ≡ true) × AllBelong (Numbered n) steps
+AllBelong f (took n e ∷ steps) = (belongs f n ≡ true) × AllBelong (Some n) steps
 AllBelong f (finished ∷ steps) = AllBelong f steps
-AllBelong f (renewed ∷ steps) = AllBelong Open steps
+AllBelong f (renewed ∷ steps) = AllBelong None steps
 
 in_hand_then : (f : Feature) (first second : List Step) → in_hand f (first ++ second) ≡ in_hand (in_hand f first) second
 in_hand_then f [] second = refl
-in_hand_then f (took n e ∷ first) second = in_hand_then (Numbered n) first second
+in_hand_then f (took n e ∷ first) second = in_hand_then (Some n) first second
 in_hand_then f (finished ∷ first) second = in_hand_then f first second
-in_hand_then f (renewed ∷ first) second = in_hand_then Open first second
+in_hand_then f (renewed ∷ first) second = in_hand_then None first second
 
 belong_then : (f : Feature) (first second : List Step) → AllBelong f first → AllBelong (in_hand f first) second → AllBelong f (first ++ second)
 belong_then f [] second h k = k
-belong_then f (took n e ∷ first) second h k = (h.0, belong_then (Numbered n) first second h.1 k)
+belong_then f (took n e ∷ first) second h k = (h.0, belong_then (Some n) first second h.1 k)
 belong_then f (finished ∷ first) second h k = belong_then f first second h k
-belong_then f (renewed ∷ first) second h k = belong_then Open first second h k
+belong_then f (renewed ∷ first) second h k = belong_then None first second h k
 
 -- so far: a state's feature is what the steps leave in hand
 pub record OneNumber (feature : Feature) (steps : List Step) : Type 0 where
-  pub held : feature ≡ in_hand Open steps
-  pub belong : AllBelong Open steps
+  pub held : feature ≡ in_hand None steps
+  pub belong : AllBelong None steps
 
 -- steps more, from the feature in hand on
 more : {f f' : Feature} {steps : List Step} (then : List Step) → f' ≡ in_hand f then → AllBelong f then → OneNumber f steps → OneNumber f' (steps ++ then)
 more {f} {f'} {steps} then held belong so_far =
     record {
-      held = held ∙ ap (λ (g : Feature). in_hand g then) so_far.held ∙ sym (in_hand_then Open steps then);
-      belong = belong_then Open steps then so_far.belong (rw so_far.held at belong);
+      held = held ∙ ap (λ (g : Feature). in_hand g then) so_far.held ∙ sym (in_hand_then None steps then);
+      belong = belong_then None steps then so_far.belong (rw so_far.held at belong);
     }
 
 as_held : {f f' : Feature} {steps : List Step} → f' ≡ f → OneNumber f steps → OneNumber f' steps
@@ -70,7 +68,7 @@ one-belongs : (f : Feature) (n : ℕ) (p : Parsed) → belongs f n ≡ true → 
 one-belongs f n Malformed own = tt
 one-belongs f n (WellFormed e) own = (own, tt)
 
-event-held : (s : State) (k : Mem) (n : ℕ) (p : Parsed) → (event_of s k n p).wrote.number ≡ 0 → in_hand s.feature (took_all (heard_in n p)) ≡ Numbered n
+event-held : (s : State) (k : Mem) (n : ℕ) (p : Parsed) → (event_of s k n p).wrote.number ≡ 0 → in_hand s.feature (took_all (heard_in n p)) ≡ Some n
 event-held s k n Malformed ok = absurd (omega (arith, ok))
 event-held s k n (WellFormed e) ok = refl
 

@@ -1,13 +1,14 @@
--- One outcome: whatever meets a call's contract on the same entry is the same, answer, state and every lent slice. The premises are the calls' own `ensures`, word for word.
-use Rattle.std.specs.Prelude.{◌≡◌, Bool, List, ◌++◌, ℕ, ◌*◌, take, drop}
-use Rattle.std.proofs.Common.{sym, ap, ◌∙◌}
+-- One outcome: whatever meets a call's contract on the same entry is the same, answer, state and every lent slice. The premises are the calls' own `ensures`, word for word, over what an answer comes to.
+use Rattle.std.specs.Prelude.{◌≡◌, refl, Result, Bool, List, ◌++◌, ℕ, ◌*◌, take, drop}
+use Rattle.std.proofs.Common.{Ok, Err, sym, ap, ◌∙◌, arith}
 use Rattle.laws.specs.Script.{Script, out, Format, run}
 use Rattle.laws.specs.Cut.{records_of, room_of, bytes_of, Said}
 use Rattle.kinds.specs.declared.flags.Flags.{Flags}
+use Rattle.kinds.specs.declared.refusal.Refusal.{Refusal}
+use Rattle.kinds.specs.Refusal.{number_of, answer_of, refused}
 use Rattle.store.specs.Lists.{Pools, record_with}
 use Rattle.event_log.specs.Log.{events}
-use Rattle.record_box.specs.declared.Boxed.{Boxed}
-use Rattle.record_box.specs.Boxed.{box_of}
+use Rattle.record_box.specs.Boxed.{Boxed, box_of, boxed_of}
 use Rattle.reader.specs.Reading.{read_s}
 use Rattle.wkb_reader.specs.Reading.{reading_r}
 use Rattle.wkb_written.specs.Writing.{Written, Did}
@@ -15,12 +16,11 @@ use Rattle.property_writer.specs.Writing.{bytes_after}
 use Rattle.property_value.specs.Value.{placed}
 use Rattle.property_reader.specs.Reading.{reading, bad_in, stopped}
 use Rattle.event_log.specs.Values.{values}
-use Rattle.runs.specs.declared.took.Took.{Took}
 use Rattle.writing.specs.declared.state.State.{State}
-use Rattle.writing.specs.declared.state.Wrote.{Wrote}
-use Rattle.writing.specs.State.{Mem, mem_of, outcome, Outcome}
+use Rattle.writing.specs.State.{Mem, mem_of, outcome, Outcome, Wrote, wrote_of, wrote-number}
 use Rattle.writing.specs.Calls.{started, event_call, finish_call, next_call}
-use Rattle.runs.specs.Events.{Progress, progress, events_call}
+use Rattle.runs.specs.declared.took.Took.{Took as Came}
+use Rattle.runs.specs.Events.{Took, took_of, Progress, progress, events_call}
 use Rattle.writer.specs.Property.{property_call, property_place}
 use Rattle.bintolage.specs.Calls.{Kept, kept, Taken, taken}
 
@@ -34,6 +34,29 @@ said_once F s L number number' count count' M M' h k =
 ran_once : {A : Type 0} (F : Format A) (s : Script A) (L : List ℕ) (number number' count count' : ℕ) (M M' : List ℕ)
     → run F s L 0 ≡ out number count M → run F s L 0 ≡ out number' count' M' → (number ≡ number') × (count ≡ count') × (M ≡ M')
 ran_once F s L number number' count count' M M' h k = let e = sym h ∙ k in (cc, cc, cc)
+
+-- ---- what an answer comes to says which answer it is: a number is that of one refusal, and 0 is that of none. Of a property's refusal only its number and its place are told.
+refusal_once : (a b : Refusal) → number_of a ≡ number_of b → a ≡ b
+refusal_once a b h = grind arith
+
+pub answer_once : {A : Type 0} (a b : Result A Refusal) → answer_of a ≡ answer_of b → ((x y : A) → a ≡ Ok x → b ≡ Ok y → x ≡ y) → a ≡ b
+answer_once (Ok x) (Ok y) h same = ap Ok (same x y refl refl)
+answer_once (Ok x) (Err q) h same = absurd (refused q (sym h))
+answer_once (Err p) (Ok y) h same = absurd (refused p h)
+answer_once (Err p) (Err q) h same = ap Err (refusal_once p q h)
+
+pub wrote_once : (s : State) (a b : Result State Refusal) → wrote_of s a ≡ wrote_of s b → a ≡ b
+wrote_once s a b h = answer_once a b (sym (wrote-number s a) ∙ ap (λ (w : Wrote). w.number) h ∙ wrote-number s b)
+    (λ x y p q. ap (λ (w : Wrote). w.state) (rw (p, q) at h))
+
+abbrev came : ℕ → State → Result (Unit {0}) Refusal → Came
+came taken state answer = record { taken = taken; state = state; answer = answer }
+
+pub took_once : (a b : Came) → took_of a ≡ took_of b → a ≡ b
+took_once a b h =
+    ap (λ (n : ℕ). came n a.state a.answer) (ap (λ (t : Took). t.taken) h)
+    ∙ ap (λ (s : State). came b.taken s a.answer) (ap (λ (t : Took). t.state) h)
+    ∙ ap (came b.taken b.state) (answer_once a.answer b.answer (ap (λ (t : Took). t.number) h) (λ x y p q. refl))
 
 -- ---- a writing call: number, state, and the seven lent slices
 module _ (r r' : Wrote) (table table' xy xy' ends ends' z z' m m' t t' tm tm' : List ℕ) where
@@ -116,6 +139,12 @@ module _ (number number' count count' : ℕ) (log log' : List ℕ) where
 pub write_wkb_once : (w : Written) (room : List ℕ) (number number' long long' : ℕ) (after after' : List ℕ)
     → Did w room number long after → Did w room number' long' after' → (number ≡ number') × (long ≡ long') × (after ≡ after')
 write_wkb_once w room number number' long long' after after' h k = (h.number_is ∙ sym k.number_is, h.long_is ∙ sym k.long_is, h.laid ∙ sym k.laid)
+
+pub boxed_once : (a b : Result _ Refusal) → boxed_of a ≡ boxed_of b → a ≡ b
+boxed_once (Ok x) (Ok y) h = ap Ok (ap (λ (b : Boxed). b.bbox) h)
+boxed_once (Ok x) (Err q) h = absurd (refused q (sym (ap (λ (b : Boxed). b.number) h)))
+boxed_once (Err p) (Ok y) h = absurd (refused p (ap (λ (b : Boxed). b.number) h))
+boxed_once (Err p) (Err q) h = ap Err (refusal_once p q (ap (λ (b : Boxed). b.number) h))
 
 pub box_once : (table : List ℕ) (P : Pools) (n : ℕ) (b b' : Boxed) → b ≡ box_of (record_with table P) n → b' ≡ box_of (record_with table P) n → b ≡ b'
 box_once table P n b b' h h' = h ∙ sym h'

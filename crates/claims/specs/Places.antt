@@ -1,9 +1,8 @@
 -- SPEC 9.13 over the calls that a machine links: each property call writes a place beside its answer, and this is what it says. The premises are the calls' own `ensures`.
-use Rattle.std.specs.Prelude.{◌≡◌, Bool, true, List, ℕ, take}
+use Rattle.std.specs.Prelude.{◌≡◌, Some, Bool, true, List, ℕ, take}
 use Rattle.std.proofs.Common.{sym, ◌∙◌}
 use Rattle.laws.specs.Cut.{Said}
 use Rattle.event_log.specs.Values.{values}
-use Rattle.utf8.specs.declared.Bad.TheVariants.{At}
 use Rattle.utf8.specs.Utf8.{BadIs}
 use Rattle.property_value.specs.Column.{is_text}
 use Rattle.property_value.specs.Value.{placed}
@@ -16,7 +15,7 @@ use Rattle.writer.specs.Property.{property_call, property_place}
 -- with 6 the column type is held to be UTF-8, and the place is that of the text's first bad byte; with any other answer it is 0
 pub property_place_lem : (s : State) (column kind bits : ℕ) (text buffer : List ℕ) (number place : ℕ)
     → number ≡ (property_call s column kind bits text buffer).number → place ≡ property_place s column kind bits text buffer
-    → (number ≡ 6 → (is_text kind ≡ true) × BadIs text (At place)) × ((number ≡ 6 → ⊥) → place ≡ 0)
+    → (number ≡ 6 → (is_text kind ≡ true) × BadIs text (Some place)) × ((number ≡ 6 → ⊥) → place ≡ 0)
 unfolding property_call property_place
 property_place_lem s column kind bits text buffer number place h k = (
   (λ six. rw k (put_bad s.waiting s.properties column kind bits text buffer (sym h ∙ six))),

@@ -5,8 +5,7 @@ use Rattle.kinds.specs.Event.{Parsed, WellFormed, Malformed}
 use Rattle.event_log.specs.Log.{heard, feature_in, record_of}
 use Rattle.property_writer.specs.Writing.{bytes_after}
 use Rattle.properties.specs.RoundTrip.{Property}
-use Rattle.writing.specs.declared.state.Wrote.{Wrote}
-use Rattle.writing.specs.State.{Mem}
+use Rattle.writing.specs.State.{Mem, Wrote}
 use Rattle.writing.specs.Calls.{started, event_call, finish_call, next_call}
 use Rattle.runs.specs.Events.{events_call}
 use Rattle.writer.specs.Property.{property_call}

@@ -8,7 +8,6 @@ use Rattle.std.proofs.lemmas.List.Edits.{sets, sets-eq}
 use Rattle.std.proofs.Math.Seq.{take_at}
 use borrow.Author.Tests.{leb-true}
 use Rattle.laws.specs.Bytes.{Bytes}
-use Rattle.laws.specs.Script.{Script}
 use Rattle.laws.specs.Cut.{records_of, number_of, room_of, Said, said_whole}
 use Rattle.kinds.specs.declared.event.Event.{Event}
 use Rattle.event_log.specs.Log.{events, records_in}

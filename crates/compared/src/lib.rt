@@ -10,23 +10,19 @@ use event_log::EVENT_BYTES;
 pub fn common(a: &[u8], b: &[u8]) -> usize
     ensures { Common a.now b.now result }
 {
-    let mut i = 0;
-    while i < a.len() {
-        if i >= b.len() {
-            return i;
-        }
+    let end = a.len().min(b.len());
+    for i in 0..end {
         if a[i] != b[i] {
             return i;
         }
-        i += 1;
     }
-    i
+    end
 }
 
 pub fn same(a: &[u8], b: &[u8]) -> bool
     ensures { Exactly result (a.now ≡ b.now) }
 {
-    (a.len() == b.len()) & (common(a, b) == a.len())
+    a == b
 }
 
 // The first `events` records of `sent` were given, and the first `count` of `log` were read back.
@@ -43,5 +39,5 @@ pub fn comes_back(events: usize, count: usize, sent: &[u8], log: &[u8]) -> bool
         return false;
     }
     let end = EVENT_BYTES * events;
-    same(&sent[0..end], &log[0..end])
+    same(&sent[..end], &log[..end])
 }

@@ -1,16 +1,16 @@
-// What the programs of this house say to people: numbers, types, refusals and events in plain words, on standard output.
+// What the programs of this house say to people: numbers, types, refusals and events in plain words.
 #![tactic(auto)]
 
 mod event;
 mod map;
 mod number;
-mod output;
-mod refusals;
+mod refused;
+mod text;
 mod words;
 
-pub use event::say_record;
-pub use map::show_map;
-pub use number::{say_double, say_float, say_signed};
-pub use output::{end_line, say, say_bytes, say_count, say_number, say_text};
-pub use refusals::say_refusal;
-pub use words::{say_column_type, say_word};
+pub use event::Record;
+pub use map::write_map;
+pub use number::{Double, Float};
+pub use refused::Refused;
+pub use text::{Hex, write_text};
+pub use words::column_type_name;

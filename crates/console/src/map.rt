@@ -1,9 +1,9 @@
 // The map of a feature: the events that came back, one to a line.
-use crate::event::say_event;
-use crate::output::{end_line, indent};
+use crate::event::{Part, Told, heard, part_of};
 use event_log::EVENT_BYTES;
-use kinds::event::{Event, Heard};
+use kinds::event::Event;
 use kinds::geometry_type;
+use std::io;
 
 // Where the map is: how deep, and in a geometry of which type.
 #[derive(Clone, Copy)]
@@ -12,77 +12,52 @@ struct Spot {
     inside: u8,
 }
 
-fn deeper(depth: u8) -> u8 {
-    if depth == u8::MAX {
-        return depth;
-    }
-    depth + 1
-}
-
-fn shallower(depth: u8) -> u8 {
-    if depth == 0 {
-        return depth;
-    }
-    depth - 1
-}
-
 // A line that is no geometry of its own is nothing to stand in.
-fn inside_of(e: Event, inside: u8) -> u8 {
-    if (e.kind == geometry_type::LINE_STRING) & !e.tagged {
-        return inside;
-    }
-    e.kind
-}
-
-fn show_line(e: Event, spot: Spot) {
-    indent(spot.depth);
-    say_event(e, spot.inside);
-    end_line();
-}
-
-// An end takes no line: the next begin stands less deep.
-fn show_event(e: Event, spot: Spot) -> Spot {
-    if (Event::END <= e.kind) & (e.kind < Event::XY) {
-        return Spot {
-            depth: shallower(spot.depth),
-            inside: spot.inside,
-        };
-    }
-    show_line(e, spot);
-    if Event::XY <= e.kind {
-        return spot;
-    }
-    Spot {
-        depth: deeper(spot.depth),
-        inside: inside_of(e, spot.inside),
+fn inside_of(event: Event, kind: u8, inside: u8) -> u8 {
+    if kind == geometry_type::LINE_STRING && !event.tagged {
+        inside
+    } else {
+        kind
     }
 }
 
-fn show_record(bytes: &[u8], spot: Spot) -> Spot {
-    if bytes.len() != EVENT_BYTES {
-        return spot;
+impl Spot {
+    // An end takes no line: the next begin stands less deep.
+    fn after(self, event: Event) -> Spot {
+        match part_of(event.kind) {
+            Part::Begin(kind) => Spot {
+                depth: self.depth.saturating_add(1),
+                inside: inside_of(event, kind, self.inside),
+            },
+            Part::End(_) => Spot {
+                depth: self.depth.saturating_sub(1),
+                inside: self.inside,
+            },
+            Part::Pair => self,
+        }
     }
-    let heard = event_log::hear(bytes);
-    if let Heard::Malformed = heard {
-        return spot;
-    }
-    show_event(event_log::event_in(bytes), spot)
 }
 
-// The first events of a log, so many.
-pub fn show_map(log: &[u8], count: usize) {
-    if count > log.len() / EVENT_BYTES {
-        return;
+fn write_line<W: io::Write>(out: &mut W, event: Event, spot: Spot) -> io::Result<()> {
+    if let Part::End(_) = part_of(event.kind) {
+        return Ok(());
     }
+    let indent = 2 * usize::from(spot.depth);
+    let told = Told {
+        event,
+        inside: spot.inside,
+    };
+    writeln!(out, "{:indent$}{told}", "")
+}
+
+pub fn write_map<W: io::Write>(out: &mut W, log: &[u8]) -> io::Result<()> {
     let mut spot = Spot {
         depth: 1,
         inside: geometry_type::UNKNOWN,
     };
-    let mut i = 0;
-    while i < count {
-        let from = EVENT_BYTES * i;
-        let end = from + EVENT_BYTES;
-        spot = show_record(&log[from..end], spot);
-        i += 1;
+    for event in log.chunks_exact(EVENT_BYTES).filter_map(heard) {
+        write_line(out, event, spot)?;
+        spot = spot.after(event);
     }
+    Ok(())
 }

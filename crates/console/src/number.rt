@@ -1,52 +1,55 @@
-// Numbers of the map, in decimal.
-use crate::output::{say, say_hex, say_number};
-use decimal::{Decimal, Magnitude, TEXT_BYTES, spell};
+// Doubles and floats in decimal, by their bit patterns.
+use decimal::{DOUBLE, FLOAT, Magnitude, Signed, of_double, of_float};
+use std::fmt;
 
-// The number with its sign, its digits and its point is one text, and `decimal` says what stands in it.
-fn say_decimal(negative: bool, d: Decimal) {
-    let mut text = [0u8; TEXT_BYTES];
-    let start = spell(negative, d, &mut text);
-    say(&text[start..]);
-}
+#[derive(Clone, Copy, Debug, PartialEq, Eq)]
+pub struct Double(pub u64);
 
-fn say_sign(negative: bool) {
-    if negative {
-        say(b"-");
-    }
+#[derive(Clone, Copy, Debug, PartialEq, Eq)]
+pub struct Float(pub u32);
+
+#[derive(Clone, Copy)]
+struct Number {
+    negative: bool,
+    magnitude: Magnitude,
+    bits: u64,
 }
 
 // A magnitude that does not fit is given by its bit pattern.
-fn say_magnitude(magnitude: Magnitude, negative: bool, bits: u64) {
-    match magnitude {
-        Magnitude::NotANumber => say(b"not a number"),
-        Magnitude::Vast => {
-            say(b"the bits 0x");
-            say_hex(bits, 16);
+impl fmt::Display for Number {
+    fn fmt<W: fmt::Write>(&self, f: &mut fmt::Formatter<W>) -> fmt::Result {
+        let negative = self.negative;
+        let bits = self.bits;
+        match self.magnitude {
+            Magnitude::Finite(decimal) => Signed { negative, decimal }.fmt(f),
+            Magnitude::Vast => write!(f, "the bits 0x{bits:016x}"),
+            Magnitude::Infinite if negative => write!(f, "-infinity"),
+            Magnitude::Infinite => write!(f, "infinity"),
+            Magnitude::NotANumber => write!(f, "not a number"),
         }
-        Magnitude::Infinite => {
-            say_sign(negative);
-            say(b"infinity");
-        }
-        Magnitude::Finite(d) => say_decimal(negative, d),
     }
 }
 
-pub fn say_double(bits: u64) {
-    let magnitude = decimal::of_double(bits);
-    say_magnitude(magnitude, decimal::is_negative_double(bits), bits);
-}
-
-pub fn say_float(bits: u32) {
-    let magnitude = decimal::of_float(bits);
-    say_magnitude(magnitude, decimal::is_negative_float(bits), bits as u64);
-}
-
-// Two's complement in a word whose sign bit has the value `sign`.
-pub fn say_signed(word: u64, sign: u64) {
-    if word < sign {
-        return say_number(word);
+impl fmt::Display for Double {
+    fn fmt<W: fmt::Write>(&self, f: &mut fmt::Formatter<W>) -> fmt::Result {
+        let bits = self.0;
+        Number {
+            negative: DOUBLE.is_negative(bits),
+            magnitude: of_double(bits),
+            bits,
+        }
+        .fmt(f)
     }
-    say(b"-");
-    let beyond = std::num::wrapping_sub_u64(word, sign);
-    say_number(std::num::wrapping_sub_u64(sign, beyond));
+}
+
+impl fmt::Display for Float {
+    fn fmt<W: fmt::Write>(&self, f: &mut fmt::Formatter<W>) -> fmt::Result {
+        let bits = u64::from(self.0);
+        Number {
+            negative: FLOAT.is_negative(bits),
+            magnitude: of_float(self.0),
+            bits,
+        }
+        .fmt(f)
+    }
 }

@@ -1,81 +1,77 @@
-// The numbers of SPEC 2 and 5.1 in words. A table has a word for each number from 0 on, with a bar between two.
-ghost use Rattle.std.specs.Prelude.{◌≤◌, length};
+// The types of geometries and columns in words. A number that is no type has none.
+use kinds::column_type::{ColumnType, NoColumnType};
+use kinds::geometry_type::{GeometryType, NoGeometryType};
 
-use crate::output::say;
-
-const BAR: u8 = b'|';
-
-fn word_end(table: &[u8], start: usize) -> usize
-    requires { start ≤ length table.now }
-    ensures { (start ≤ result) × (result ≤ length table.now) }
-{
-    let mut i = start;
-    while i < table.len() {
-        if table[i] == BAR {
-            return i;
-        }
-        i += 1;
-    }
-    i
-}
-
-fn word_start(table: &[u8], number: u8) -> usize
-    ensures { result ≤ length table.now }
-{
-    let mut start = 0;
-    let mut left = number;
-    while left > 0 {
-        let end = word_end(table, start);
-        if end == table.len() {
-            return end;
-        }
-        start = end + 1;
-        left -= 1;
-    }
-    start
-}
-
-pub fn say_word(table: &[u8], number: u8) {
-    let start = word_start(table, number);
-    let end = word_end(table, start);
-    say(&table[start..end]);
-}
-
-pub fn say_type(kind: u8) {
-    say_word(
-        b"Unknown|Point|LineString|Polygon|MultiPoint|MultiLineString|MultiPolygon|GeometryCollection|CircularString|\
-CompoundCurve|CurvePolygon|MultiCurve|MultiSurface|Curve|Surface|PolyhedralSurface|TIN|Triangle",
-        kind,
-    );
-}
-
-// What a geometry of a type is a row of, for one of them and for any other number.
-fn say_one(kind: u8) {
-    say_word(
-        b"geometry|pair|pair|ring|pair|line|polygon|geometry|pair|curve|ring|curve|surface|pair|ring|polygon|triangle|ring",
-        kind,
-    );
-}
-
-fn say_many(kind: u8) {
-    say_word(
-        b"geometries|pairs|pairs|rings|pairs|lines|polygons|geometries|pairs|curves|rings|curves|surfaces|pairs|rings|\
-polygons|triangles|rings",
-        kind,
-    );
-}
-
-pub fn say_content(kind: u8, size: u32) {
-    if size == 1 {
-        say_one(kind);
-    } else {
-        say_many(kind);
+pub fn type_name(kind: u8) -> &'static str {
+    match GeometryType::try_from(kind) {
+        Ok(GeometryType::Unknown) => "Unknown",
+        Ok(GeometryType::Point) => "Point",
+        Ok(GeometryType::LineString) => "LineString",
+        Ok(GeometryType::Polygon) => "Polygon",
+        Ok(GeometryType::MultiPoint) => "MultiPoint",
+        Ok(GeometryType::MultiLineString) => "MultiLineString",
+        Ok(GeometryType::MultiPolygon) => "MultiPolygon",
+        Ok(GeometryType::GeometryCollection) => "GeometryCollection",
+        Ok(GeometryType::CircularString) => "CircularString",
+        Ok(GeometryType::CompoundCurve) => "CompoundCurve",
+        Ok(GeometryType::CurvePolygon) => "CurvePolygon",
+        Ok(GeometryType::MultiCurve) => "MultiCurve",
+        Ok(GeometryType::MultiSurface) => "MultiSurface",
+        Ok(GeometryType::Curve) => "Curve",
+        Ok(GeometryType::Surface) => "Surface",
+        Ok(GeometryType::PolyhedralSurface) => "PolyhedralSurface",
+        Ok(GeometryType::Tin) => "TIN",
+        Ok(GeometryType::Triangle) => "Triangle",
+        Err(NoGeometryType) => "",
     }
 }
 
-pub fn say_column_type(kind: u8) {
-    say_word(
-        b"Byte|UByte|Bool|Short|UShort|Int|UInt|Long|ULong|Float|Double|String|Json|DateTime|Binary",
-        kind,
-    );
+// What a geometry of a type is a row of: the word for one of them, and for any other number.
+fn content_names(kind: u8) -> (&'static str, &'static str) {
+    let Ok(kind) = GeometryType::try_from(kind) else {
+        return ("", "");
+    };
+    match kind {
+        GeometryType::Unknown | GeometryType::GeometryCollection => ("geometry", "geometries"),
+        GeometryType::Point
+        | GeometryType::LineString
+        | GeometryType::MultiPoint
+        | GeometryType::CircularString
+        | GeometryType::Curve => ("pair", "pairs"),
+        GeometryType::Polygon
+        | GeometryType::CurvePolygon
+        | GeometryType::Surface
+        | GeometryType::Triangle => ("ring", "rings"),
+        GeometryType::MultiLineString => ("line", "lines"),
+        GeometryType::MultiPolygon | GeometryType::PolyhedralSurface => ("polygon", "polygons"),
+        GeometryType::CompoundCurve | GeometryType::MultiCurve => ("curve", "curves"),
+        GeometryType::MultiSurface => ("surface", "surfaces"),
+        GeometryType::Tin => ("triangle", "triangles"),
+    }
+}
+
+pub fn content_name(kind: u8, size: u32) -> &'static str {
+    let (one, many) = content_names(kind);
+    if size == 1 { one } else { many }
+}
+
+pub fn column_type_name(kind: u8) -> &'static str {
+    match ColumnType::try_from(kind) {
+        Ok(ColumnType::Byte) => "Byte",
+        Ok(ColumnType::UByte) => "UByte",
+        Ok(ColumnType::Bool) => "Bool",
+        Ok(ColumnType::Short) => "Short",
+        Ok(ColumnType::UShort) => "UShort",
+        Ok(ColumnType::Int) => "Int",
+        Ok(ColumnType::UInt) => "UInt",
+        Ok(ColumnType::Long) => "Long",
+        Ok(ColumnType::ULong) => "ULong",
+        Ok(ColumnType::Float) => "Float",
+        Ok(ColumnType::Double) => "Double",
+        Ok(ColumnType::String) => "String",
+        Ok(ColumnType::Json) => "Json",
+        Ok(ColumnType::DateTime) => "DateTime",
+        Ok(ColumnType::Binary) => "Binary",
+        Err(NoColumnType) => "",
+    }
 }

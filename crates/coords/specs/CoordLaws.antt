@@ -1,20 +1,23 @@
 -- The coordinate walk, unrolled by one turn of the loop that says it, and the windows that it walks.
-use Rattle.std.specs.Prelude.{◌≡◌, Bool, not, ◌&&◌, List, ◌∷◌, ℕ, ◌+◌, ◌-◌, ◌*◌, ◌<◌, ◌≤◌, drop, get_or}
-use Rattle.std.proofs.Math.Path.{refl, ap}
-use Rattle.std.proofs.Common.{sym, ◌∙◌, add-one, drop-cons}
-use Rattle.std.proofs.Math.Bool.{true, false}
+use Rattle.std.specs.Borrow.{Bor}
+use Rattle.std.specs.Prelude.{◌≡◌, Option as OptionR, Some, None, Result, Bool, ◌&&◌, List, [], ◌∷◌, ℕ, ◌+◌, ◌-◌, ◌*◌, ◌/◌, ◌%◌, ◌<◌, ◌≤◌, min, drop, get_or, ltb}
+use Rattle.std.proofs.Math.Path.{ap}
+use Rattle.std.proofs.Common.{Ok, Err, ◌∙◌, add-one, drop-cons}
+use Rattle.std.proofs.Math.Bool.{cond}
 use native.Mathlib.Omega.{arith}
-use Rattle.std.proofs.Math.ListN.{length, length-drop, drop_of_length-le}
+use Rattle.std.proofs.Math.ListN.{length, take, drop_of_length-le, length-drop}
 use Rattle.std.proofs.Math.Seq.{take_all, take-nil}
-use borrow.Author.Tests.{le-ltb, lt-ltb}
-use Rattle.laws.specs.Every.{never}
-use Rattle.laws.specs.Script.{Script, stop, say, one, ◌⨟◌}
+use Rattle.laws.specs.Script.{Script, Format, stop, say, one, ◌⨟◌}
 use Rattle.kinds.specs.declared.event.Event.{Event}
-use Rattle.coords.specs.declared.pairs.Pair.{Pair}
-use Rattle.coords.specs.declared.pairs.Pair.TheVariants.{Whole, Short}
+use Rattle.kinds.specs.declared.refusal.Refusal.{Refusal}
+use Rattle.kinds.specs.Refusal.{number_of, answer_of}
 use Rattle.coords.specs.Coords.{Lanes, dropped, tails, pair_s, coords_s, between_s}
-use Rattle.coords.specs.Seen.{told, Windowed}
+use Rattle.coords.specs.Views.{list_in, told}
 use Rattle.coords.specs.PairLaws.{tails-dropped}
+use Rattle.event_log.specs.declared.log.Log.{Log}
+use Rattle.event_log.specs.Says.{Says}
+use Rattle.event_log.specs.SaysLaws.{nothing, refuses}
+use Rattle.std.proofs.Math.Decide.{dec_le}
 
 pub drop-one : (l : List ℕ) (i : ℕ) → i < length l → drop i l ≡ get_or l i 0 ∷ drop (i + 1) l
 drop-one l i h = rw (add-one, drop-cons l i 0)
@@ -38,89 +41,64 @@ module _ (many : Bool) (L : Lanes) (l : List ℕ) (i idx last : ℕ) where
       let q : i + 1 + 1 ≡ i + 2 = omega arith in
       rw (drop-one l i h, drop-one l (i + 1) p, q)
 
--- the pair of number idx of a stretch that begins at the record's pair `from`
-module _ (many : Bool) (L : Lanes) (l : List ℕ) (from i idx last : ℕ) {p : Pair} (two : 2 ≤ length l - i)
-    (says : (k : Script Event) → pair_s many (dropped (from + idx) L) (get_or l i 0) (get_or l (i + 1) 0) idx k ≡ told p k) where
-  pub coords_short : p ≡ Short → coords_s many (dropped (from + idx) L) (drop i l) idx last ≡ stop 7
-  coords_short e = coords_two many (dropped (from + idx) L) l i idx last two ∙ says (coords_s many (tails (dropped (from + idx) L)) (drop (i + 2) l) (idx + 1) last) ∙ ap (λ (q : Pair). told q (coords_s many (tails (dropped (from + idx) L)) (drop (i + 2) l) (idx + 1) last)) e
+-- ---- the pairs of a stretch from number i on, where the stretch begins at the record's pair `from`
+abbrev pub pairs_s : Bool → Lanes → List ℕ → ℕ → ℕ → ℕ → Script Event
+pairs_s many L l from last i = coords_s many (dropped (from + i) L) (drop (2 * i) l) i last
 
-  pub coords_whole : {e : Event} → p ≡ Whole e → coords_s many (dropped (from + idx) L) (drop i l) idx last ≡ one e ⨟ coords_s many (dropped (from + (idx + 1)) L) (drop (i + 2) l) (idx + 1) last
-  unfolding ◌⨟◌
-  coords_whole {e} q =
-      let n : from + idx + 1 ≡ from + (idx + 1) = omega arith in
-      coords_two many (dropped (from + idx) L) l i idx last two
-      ∙ says (coords_s many (tails (dropped (from + idx) L)) (drop (i + 2) l) (idx + 1) last)
-      ∙ ap (λ (q : Pair). told q (coords_s many (tails (dropped (from + idx) L)) (drop (i + 2) l) (idx + 1) last)) q
-      ∙ ap (λ (L' : Lanes). say e (coords_s many L' (drop (i + 2) l) (idx + 1) last)) (tails-dropped (from + idx) L ∙ ap (λ (k : ℕ). dropped k L) n)
+module _ (many : Bool) (L : Lanes) (l : List ℕ) (from last i : ℕ) where
+  pub pairs_over : length l / 2 ≤ i → (length l % 2 ≡ 0) → pairs_s many L l from last i ≡ stop last
+  pairs_over h e = coords_end many (dropped (from + i) L) l (2 * i) i last (omega arith)
+
+  pub pairs_odd : i ≡ length l / 2 → (length l % 2 ≡ 0 → ⊥) → pairs_s many L l from last i ≡ stop 7
+  pairs_odd h e = coords_odd many (dropped (from + i) L) l (2 * i) i last (omega arith) (omega arith)
+
+  -- the next pair
+  module _ (there : i < length l / 2) where
+    two : pairs_s many L l from last i ≡ pair_s many (dropped (from + i) L) (get_or l (2 * i) 0) (get_or l (2 * i + 1) 0) i (coords_s many (tails (dropped (from + i) L)) (drop (2 * i + 2) l) (i + 1) last)
+    two = coords_two many (dropped (from + i) L) l (2 * i) i last (omega arith)
+
+    pub pairs_short : (e : Refusal) → ((k : Script Event) → pair_s many (dropped (from + i) L) (get_or l (2 * i) 0) (get_or l (2 * i + 1) 0) i k ≡ told (Err e) k) → pairs_s many L l from last i ≡ stop (number_of e)
+    pairs_short e says = two ∙ says _
+
+    pub pairs_next : (e : Event) → ((k : Script Event) → pair_s many (dropped (from + i) L) (get_or l (2 * i) 0) (get_or l (2 * i + 1) 0) i k ≡ told (Ok e) k) → pairs_s many L l from last i ≡ one e ⨟ pairs_s many L l from last (i + 1)
+    unfolding ◌⨟◌
+    pairs_next e says =
+        let n : from + i + 1 ≡ from + (i + 1) = omega arith in
+        let d : 2 * i + 2 ≡ 2 * (i + 1) = omega arith in
+        two ∙ says _
+        ∙ ap (λ (L' : Lanes). say e (coords_s many L' (drop (2 * i + 2) l) (i + 1) last)) (tails-dropped (from + i) L ∙ ap (λ (k : ℕ). dropped k L) n)
+        ∙ ap (λ (j : ℕ). say e (coords_s many (dropped (from + (i + 1)) L) (drop j l) (i + 1) last)) d
+
+-- an answer alone
+pub answers : {L : Type 0} (format : L → Format Event) (r : Result Unit Refusal) (a : Log L) → Says format (stop (answer_of r)) a a r
+answers format (Ok u) a = nothing format a
+answers format (Err e) a = refuses format e a
 
 -- ---- windows
-and_false : (b : Bool) → (b && false) ≡ false
-and_false true = refl
-and_false false = refl
+same_words : (from to : ℕ) (l : List ℕ) → from ≤ to → take (min (length l) (2 * to) - min (length l) (2 * from)) (drop (min (length l) (2 * from)) l) ≡ take (2 * to - 2 * from) (drop (2 * from) l)
+same_words from to l h = go (dec_le (2 * from) (length l)) (dec_le (2 * to) (length l))
+  where
+    go : Dec (2 * from ≤ length l) → Dec (2 * to ≤ length l) → take (min (length l) (2 * to) - min (length l) (2 * from)) (drop (min (length l) (2 * from)) l) ≡ take (2 * to - 2 * from) (drop (2 * from) l)
+    go (yes a) (yes b) =
+        let p : min (length l) (2 * from) ≡ 2 * from = omega arith in
+        let q : min (length l) (2 * to) ≡ 2 * to = omega arith in
+        rw (p, q)
+    go (yes a) (no b) =
+        let p : min (length l) (2 * from) ≡ 2 * from = omega arith in
+        let q : min (length l) (2 * to) ≡ length l = omega arith in
+        rw (p, q, take_all (length l - 2 * from) (drop (2 * from) l) (omega (arith, length-drop (2 * from) l)), take_all (2 * to - 2 * from) (drop (2 * from) l) (omega (arith, length-drop (2 * from) l)))
+    go (no a) d =
+        let p : min (length l) (2 * from) ≡ length l = omega arith in
+        let j : length l ≤ 2 * from = omega arith in
+        let k : length l ≤ length l = omega arith in
+        rw (p, drop_of_length-le l j, drop_of_length-le l k, take-nil, take-nil)
 
-and_true : (b : Bool) → (b && true) ≡ b
-and_true true = refl
-and_true false = refl
-
-module _ (words from to : ℕ) where
-  pub windowed_absent : (there : Bool) → not there ≡ true → Windowed there words from to (record { from = from; start = 0; end = 0; last = 1 })
+module _ (many : Bool) (L : Lanes) (from to : ℕ) {o : OptionR (Bor (List ℕ))} where
+  pub window_none : o ≡ None → between_s many (list_in o) L from to ≡ coords_s many (dropped from L) [] 0 1
   unfolding between_s coords_s
-  windowed_absent true h = absurd (never h)
-  windowed_absent false h = record { low = omega arith; high = omega arith; from_is = refl; says = λ many L xy e. refl }
+  window_none h = rw h
 
-  pub windowed_in : (there : Bool) → not there ≡ false → from ≤ to → 2 * to ≤ words → Windowed there words from to (record { from = from; start = 2 * from; end = 2 * to; last = 0 })
+  pub window_some : {l : Bor (List ℕ)} {start end : ℕ} (last : Result Unit Refusal) → o ≡ Some l → from ≤ to → start ≡ min (length l.now) (2 * from) → end ≡ min (length l.now) (2 * to)
+      → answer_of last ≡ cond (ltb from to && ltb (length l.now) (2 * to)) 7 0 → between_s many (list_in o) L from to ≡ coords_s many (dropped from L) (take (end - start) (drop start l.now)) 0 (answer_of last)
   unfolding between_s
-  windowed_in true h k j =
-      record {
-        low = omega arith;
-        high = j;
-        from_is = refl;
-        says = λ many L xy e. let f : 2 * to ≤ length xy = omega arith in rw (le-ltb (length xy) (2 * to) f, and_false);
-      }
-  windowed_in false h k j = absurd (never (sym h))
-
-  pub windowed_cut : (there : Bool) → not there ≡ false → words < 2 * to → 2 * from < words → Windowed there words from to (record { from = from; start = 2 * from; end = words; last = 7 })
-  unfolding between_s
-  windowed_cut true h k j =
-      record {
-        low = omega arith;
-        high = omega arith;
-        from_is = refl;
-        says = λ many L xy e.
-            let f : length xy < 2 * to = omega arith in
-            let g : from < to = omega arith in
-            let d = length-drop (2 * from) xy in
-            rw (lt-ltb (length xy) (2 * to) f, lt-ltb from to g, take_all (2 * to - 2 * from) (drop (2 * from) xy) (omega arith), take_all (words - 2 * from) (drop (2 * from) xy) (omega arith));
-      }
-  windowed_cut false h k j = absurd (never (sym h))
-
-  pub windowed_past : (there : Bool) → not there ≡ false → words < 2 * to → words ≤ 2 * from → 2 * from < 2 * to → Windowed there words from to (record { from = from; start = words; end = words; last = 7 })
-  unfolding between_s
-  windowed_past true h k j s =
-      record {
-        low = omega arith;
-        high = omega arith;
-        from_is = refl;
-        says = λ many L xy e.
-            let f : length xy < 2 * to = omega arith in
-            let g : from < to = omega arith in
-            let p : length xy ≤ 2 * from = omega arith in
-            let q : length xy ≤ words = omega arith in
-            rw (lt-ltb (length xy) (2 * to) f, lt-ltb from to g, drop_of_length-le xy p, drop_of_length-le xy q, take-nil, take-nil);
-      }
-  windowed_past false h k j s = absurd (never (sym h))
-
-  pub windowed_empty : (there : Bool) → not there ≡ false → words ≤ 2 * from → 2 * to ≤ 2 * from → Windowed there words from to (record { from = from; start = words; end = words; last = 0 })
-  unfolding between_s
-  windowed_empty true h j s =
-      record {
-        low = omega arith;
-        high = omega arith;
-        from_is = refl;
-        says = λ many L xy e.
-            let g : to ≤ from = omega arith in
-            let p : length xy ≤ 2 * from = omega arith in
-            let q : length xy ≤ words = omega arith in
-            rw (le-ltb from to g, drop_of_length-le xy p, drop_of_length-le xy q, take-nil, take-nil);
-      }
-  windowed_empty false h j s = absurd (never (sym h))
+  window_some {l} last h k p q e = rw (h, p, q, same_words from to l.now k, e)

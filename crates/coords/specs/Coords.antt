@@ -7,10 +7,12 @@ use Rattle.kinds.specs.declared.event.Event.{Event}
 use Rattle.kinds.specs.declared.flags.Flags.{Flags}
 use Rattle.geometries.specs.Coordinate.{multi, coord_e}
 use Rattle.store.specs.Lists.{Rec}
-use Rattle.coords.specs.declared.pairs.Value.{Value}
-use Rattle.coords.specs.declared.pairs.Value.TheVariants.{Absent, Past, Present}
 
 -- ---- z, m, t and tm: what stands first of a list that may be absent
+pub data Value : Type 0 where
+  Absent Past : Value
+  Present : ℕ → Value
+
 abbrev pub head_of : Option (List ℕ) → Value
 head_of none = Absent
 head_of (some []) = Past

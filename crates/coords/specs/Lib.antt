@@ -1,4 +1,4 @@
 pub mod Coords
-pub mod Seen
+pub mod Views
 pub mod PairLaws
 pub mod CoordLaws

@@ -2,9 +2,12 @@
 #![tactic(auto)]
 
 mod coords;
+mod head;
+mod lists;
 mod pairs;
 mod window;
 
-pub use coords::{Frame, read_window};
-pub use pairs::Seen;
-pub use window::{Window, between};
+pub use coords::read_window;
+pub use head::Head;
+pub use lists::{Lists, Window};
+pub use window::between;

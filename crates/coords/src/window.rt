@@ -1,63 +1,29 @@
 // The stretch of the xy list that a walk goes over: from pair to pair, doubled to words.
-ghost use Rattle.std.specs.Prelude.{◌≤◌, ◌<◌};
-ghost use Rattle.coords.specs.Seen.{Windowed};
+ghost use Rattle.std.specs.Prelude.{◌≡◌, ◌≤◌, ◌<◌};
+ghost use Rattle.coords.specs.Coords.{between_s};
+ghost use Rattle.coords.specs.Views.{coords_in, window_s};
 
-use kinds::refusal;
+use crate::lists::{Lists, Window};
+use kinds::refusal::Refusal;
 
-// A stretch of a record's xy words; its first pair is number `from` of the record's, and after its last pair stands
-// the number `last`.
-#[derive(Clone, Copy)]
-pub struct Window {
-    pub from: usize,
-    pub start: usize,
-    pub end: usize,
-    pub last: u8,
-}
-
-// The pairs from number `from` to number `to` of a list of so many words, as far as it has them.
-pub fn between(there: bool, words: usize, from: u32, to: u32) -> Window
+// The pairs from number `from` to number `to` of a record's, as far as it has them.
+pub fn between<'a>(lists: &Lists<'a>, from: u32, to: u32) -> Window<'a>
     requires { (from ≤ to) × (to < 2147483648) }
-    ensures { Windowed there words from to result }
+    ensures { let C = coords_in lists.now in between_s C.many C.xy C.lanes from to ≡ window_s C result }
 {
-    let from = from as usize;
-    let start = 2 * from;
-    let end = 2 * (to as usize);
-    if !there {
+    let Some(xy) = lists.xy else {
         return Window {
+            words: &[],
             from,
-            start: 0,
-            end: 0,
-            last: refusal::XY_ABSENT,
+            last: Err(Refusal::XyAbsent),
         };
-    }
-    if end <= words {
-        return Window {
-            from,
-            start,
-            end,
-            last: refusal::DONE,
-        };
-    }
-    if start < words {
-        return Window {
-            from,
-            start,
-            end: words,
-            last: refusal::PAST_LIST,
-        };
-    }
-    if start < end {
-        return Window {
-            from,
-            start: words,
-            end: words,
-            last: refusal::PAST_LIST,
-        };
-    }
+    };
+    let start = xy.len().min(2 * (from as usize));
+    let end = xy.len().min(2 * (to as usize));
+    let cut = (from < to) & (xy.len() < 2 * (to as usize));
     Window {
+        words: &xy[start..end],
         from,
-        start: words,
-        end: words,
-        last: refusal::DONE,
+        last: if cut { Err(Refusal::PastList) } else { Ok(()) },
     }
 }

@@ -3,5 +3,6 @@ pub mod RoundingLaws
 pub mod Magnitude
 pub mod FractionLaws
 pub mod FiniteLaws
+pub mod FormatLaws
 pub mod Text
 pub mod TextLaws

@@ -1,5 +1,5 @@
 -- A decimal number as a person reads it, in ASCII.
-use Rattle.std.specs.Prelude.{◌≡◌, Bool, cond, List, ◌∷◌, ◌++◌, ℕ}
+use Rattle.std.specs.Prelude.{◌≡◌, Bool, cond, List, ◌∷◌, ◌++◌, ℕ, length, decimal}
 use Rattle.io.specs.Digits.{last_digits, IsDigitCount}
 use Rattle.decimal.specs.declared.Decimal.{Decimal}
 
@@ -15,3 +15,7 @@ pub record Spelt (negative : Bool) (d : Decimal) (text : List ℕ) : Type 0 wher
   pub places : ℕ
   pub fewest : IsDigitCount 10 1 d.whole places
   pub reads : text ≡ signed negative (pointed places d)
+
+-- The text that is printed: with as many digits before the point as the number has.
+unfoldable pub spelt : Bool → Decimal → List ℕ
+spelt negative d = signed negative (pointed (length (decimal d.whole)) d)

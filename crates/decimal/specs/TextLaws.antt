@@ -1,85 +1,142 @@
--- Digits laid down from the last to the first.
-use Rattle.std.specs.Prelude.{◌≡◌, refl, Bool, true, false, List, [], ◌∷◌, ◌++◌, ℕ, suc, ◌+◌, ◌-◌, ◌/◌, ◌%◌, ◌^◌, ◌≤◌, ◌<◌, leb, length, drop, set}
-use Rattle.std.proofs.Common.{sym, ap, ◌∙◌, append_assoc, append-nil, mod-lt, arith, length-set, drop-cons, get_or-set_same, drop-set-lt, lt-ltb, leb-true, leb-false}
-use Rattle.std.proofs.Math.Nat.{pow-le-pow_right}
-use Rattle.std.proofs.Math.Seq.{drop-length}
+-- The text that is printed is the number as it is to be read.
+use Rattle.std.specs.Prelude.{◌≡◌, refl, Bool, true, false, cond, List, [], ◌∷◌, ◌++◌, ℕ, zero, suc, ◌+◌, ◌-◌, ◌/◌, ◌%◌, ◌^◌, ◌≤◌, ◌<◌, length, replicate, decimal}
+use Rattle.std.specs.Fmt.{padded_integral, format_spec, char_count}
+use Rattle.std.proofs.Common.{sym, ap, ◌∙◌, append_assoc, append-nil, arith, mod-lt, lt-ltb, length-append, add-one}
+use Rattle.std.proofs.Math.Nat.{pow-succ'}
+use Rattle.std.proofs.lemmas.List.{replicate_more}
+use Rattle.std.proofs.lemmas.Fmt.{decimal_by_steps, length-decimal-le}
 use Rattle.laws.specs.Cond.{if_so}
 use Rattle.io.specs.Digits.{last_digits, hex_digit_ascii, IsDigitCount}
+use Rattle.decimal.specs.declared.Decimal.{Decimal}
+use Rattle.decimal.specs.Text.{Spelt, spelt, signed, pointed}
 
-pub glyph_of : (n : ℕ) → 48 + n % 10 ≡ hex_digit_ascii (n % 10)
+glyph_of : (n : ℕ) → 48 + n % 10 ≡ hex_digit_ascii (n % 10)
 glyph_of n = if_so (87 + n % 10) (lt-ltb (n % 10) 10 (mod-lt n (omega arith))) refl
 
--- What stands from a place on, after a store there.
-pub stored : (l : List ℕ) (i v : ℕ) → i < length l → drop i (set l i v) ≡ v ∷ drop (suc i) l
-stored l i v h =
-    drop-cons (set l i v) i 0 (omega (arith, length-set l i v))
-    ∙ ap (λ (x : ℕ). x ∷ drop (suc i) (set l i v)) (get_or-set_same l i v 0 h)
-    ∙ ap (λ (x : List ℕ). v ∷ x) (drop-set-lt (suc i) l i v (omega arith))
+-- A number's own digits: as many as it has, and these the last of it.
+pub record OwnDigits (n : ℕ) (digits : List ℕ) : Type 0 where
+  pub fewest : IsDigitCount 10 1 n (length digits)
+  pub last : digits ≡ last_digits 10 (length digits) n
 
--- One digit more is laid down before those that stand.
-pub digit_more : (k n i : ℕ) (l : List ℕ) → i < length l
-    → last_digits 10 k (n / 10) ++ drop i (set l i (hex_digit_ascii (n % 10))) ≡ last_digits 10 (suc k) n ++ drop (suc i) l
-digit_more k n i l h =
-    ap (λ (x : List ℕ). last_digits 10 k (n / 10) ++ x) (stored l i (hex_digit_ascii (n % 10)) h)
-    ∙ sym (append_assoc (last_digits 10 k (n / 10)) (hex_digit_ascii (n % 10) ∷ []) (drop (suc i) l))
+-- A digit more needs a number ten times as large.
+large : (n k : ℕ) → 10 ≤ n → 1 ≤ k → (1 < k → 10 ^ (k - 1) ≤ n / 10) → 10 ^ k ≤ n
+large n zero h least more = elim least [ ]
+large n (suc zero) h least more = h
+large n (suc (suc k)) h least more =
+    let before : suc (suc k) - 1 ≡ suc k = omega arith in
+    let front : 10 ^ suc k ≤ n / 10 = rw before at (more (omega arith)) in
+    omega (arith, front, pow-succ' 10 (suc k))
 
--- The turns of a loop that lays down the digits from `from` on: what is left to lay, before what stands, comes to all of it.
-module _ (from i rest : ℕ) (l all : List ℕ) (so_far : last_digits 10 (i - from) rest ++ drop i l ≡ all) where
-  pub laid_more : (v : ℕ) → from < i → i ≤ length l → v ≡ hex_digit_ascii (rest % 10)
-      → last_digits 10 (i - 1 - from) (rest / 10) ++ drop (i - 1) (set l (i - 1) v) ≡ all
-  laid_more v more within is =
-      ap (λ (x : ℕ). last_digits 10 (i - 1 - from) (rest / 10) ++ drop (i - 1) (set l (i - 1) x)) is
-      ∙ digit_more (i - 1 - from) rest (i - 1) l (omega arith)
-      ∙ ap (λ (x : ℕ). last_digits 10 x rest ++ drop (suc (i - 1)) l) left
-      ∙ ap (λ (x : ℕ). last_digits 10 (i - from) rest ++ drop x l) here
-      ∙ so_far
-    where
-      left : suc (i - 1 - from) ≡ i - from
-      left = omega arith
-
-      here : suc (i - 1) ≡ i
-      here = omega arith
-
-  pub laid-all : i ≤ from → from ≤ i → drop from l ≡ all
-  laid-all done within =
-      ap (λ (x : ℕ). drop x l) here ∙ ap (λ (x : ℕ). last_digits 10 x rest ++ drop i l) none ∙ so_far
-    where
-      here : from ≡ i
-      here = omega arith
-
-      none : 0 ≡ i - from
-      none = omega arith
-
--- Seven digits at the end of 29 bytes, the point before them, and the others before that.
-pub laid_out : (k w f : ℕ) (first behind before : List ℕ) → k ≤ 20 → length first ≡ 29 → length behind ≡ 29
-    → drop 22 behind ≡ last_digits 10 7 f ++ drop 29 first
-    → drop (21 - k) before ≡ last_digits 10 (21 - (21 - k)) w ++ drop 21 (set behind 21 46)
-    → drop (21 - k) before ≡ last_digits 10 k w ++ 46 ∷ last_digits 10 7 f
-laid_out k w f first behind before few sized same fraction laid =
-    laid
-    ∙ ap (λ (x : ℕ). last_digits 10 x w ++ drop 21 (set behind 21 46)) so_many
-    ∙ ap (λ (x : List ℕ). last_digits 10 k w ++ x) (stored behind 21 46 (omega arith))
-    ∙ ap (λ (x : List ℕ). last_digits 10 k w ++ 46 ∷ x) (fraction ∙ ap (λ (x : List ℕ). last_digits 10 7 f ++ x) end ∙ append-nil (last_digits 10 7 f))
+one_more : (n : ℕ) (ds all : List ℕ) → 10 ≤ n → OwnDigits (n / 10) ds → all ≡ ds ++ ((48 + n % 10) ∷ []) → OwnDigits n all
+one_more n ds all h front is = record {
+  fewest = (
+    omega (arith, longer),
+    rw longer (omega (arith, front.fewest.1, pow-succ' 10 (length ds))),
+    λ g. rw (ap (λ (x : ℕ). 10 ^ (x - 1)) longer ∙ ap (λ (x : ℕ). 10 ^ x) before) (large n (length ds) h front.fewest.0 front.fewest.2),
+  );
+  last =
+      is
+      ∙ ap (λ (x : List ℕ). x ++ ((48 + n % 10) ∷ [])) front.last
+      ∙ ap (λ (x : ℕ). last_digits 10 (length ds) (n / 10) ++ (x ∷ [])) (glyph_of n)
+      ∙ ap (λ (x : ℕ). last_digits 10 x n) (sym longer);
+}
   where
-    so_many : 21 - (21 - k) ≡ k
-    so_many = omega arith
+    longer : length all ≡ suc (length ds)
+    longer = ap length is ∙ length-append ds ((48 + n % 10) ∷ []) ∙ add-one (length ds)
 
-    end : drop 29 first ≡ []
-    end = ap (λ (x : ℕ). drop x first) (sym sized) ∙ drop-length first
+    before : suc (length ds) - 1 ≡ length ds
+    before = omega arith
 
--- A byte before what stands.
-pub put-before : (l : List ℕ) (i v : ℕ) → 0 < i → i ≤ length l → drop (i - 1) (set l (i - 1) v) ≡ v ∷ drop i l
-put-before l i v h g = stored l (i - 1) v (omega arith) ∙ ap (λ (x : ℕ). v ∷ drop x l) here
+pub own_digits : (n : ℕ) → n < 2 ^ 64 → OwnDigits n (decimal n)
+own_digits = decimal_by_steps OwnDigits one (λ n ds h front. one_more n ds (ds ++ ((48 + n % 10) ∷ [])) h front refl)
   where
-    here : suc (i - 1) ≡ i
-    here = omega arith
+    one : (n : ℕ) → n < 10 → OwnDigits n ((48 + n) ∷ [])
+    one n h =
+        let same : n % 10 ≡ n = omega arith in
+        record {
+          fewest = (omega arith, omega arith, λ g. omega arith);
+          last = ap (λ (x : ℕ). x ∷ []) (ap (λ (x : ℕ). 48 + x) (sym same) ∙ glyph_of n);
+        }
 
--- A word has twenty digits at most.
-pub few_places : (n k : ℕ) → n < 2 ^ 64 → IsDigitCount 10 1 n k → k ≤ 20
-few_places n k h fewest = go (leb k 20) refl
+-- Zeros before a number's digits are digits of it.
+zeros : (k : ℕ) → replicate k 48 ≡ last_digits 10 k 0
+zeros zero = refl
+zeros (suc k) =
+    ap (λ (x : ℕ). replicate x 48) (sym (add-one k)) ∙ sym (replicate_more k 48) ∙ ap (λ (x : List ℕ). x ++ (48 ∷ [])) (zeros k)
+
+zeros_before : (k j n : ℕ) → n < 10 ^ k → replicate j 48 ++ last_digits 10 k n ≡ last_digits 10 (j + k) n
+zeros_before zero j n h =
+    let none : 0 ≡ n = omega arith in
+    let all : j ≡ j + 0 = omega arith in
+    append-nil (replicate j 48) ∙ zeros j ∙ ap (λ (x : ℕ). last_digits 10 x 0) all ∙ ap (λ (x : ℕ). last_digits 10 (j + 0) x) none
+zeros_before (suc k) j n h =
+    let front : n / 10 < 10 ^ k = omega (arith, pow-succ' 10 k) in
+    let all : suc (j + k) ≡ j + suc k = omega arith in
+    sym (append_assoc (replicate j 48) (last_digits 10 k (n / 10)) (hex_digit_ascii (n % 10) ∷ []))
+    ∙ ap (λ (x : List ℕ). x ++ (hex_digit_ascii (n % 10) ∷ [])) (zeros_before k j (n / 10) front)
+    ∙ ap (λ (x : ℕ). last_digits 10 x n) all
+
+-- The last digits of a number are those of what is left of it below that power of ten.
+seven : (n : ℕ) → last_digits 10 7 (n % 10000000) ≡ last_digits 10 7 n
+seven n = rw (sixth, fifth, fourth, third, second, first, zeroth) refl
   where
-    go : (b : Bool) → leb k 20 ≡ b → k ≤ 20
-    go true e = leb-true k 20 e
-    go false e =
-        let more : 20 < k = leb-false k 20 e in
-        omega (arith, fewest.2 (omega arith), pow-le-pow_right {n = 10} (omega arith) {i = 20} {j = k - 1} (omega arith))
+    sixth : n % 10000000 / 10 / 10 / 10 / 10 / 10 / 10 % 10 ≡ n / 10 / 10 / 10 / 10 / 10 / 10 % 10
+    sixth = omega arith
+
+    fifth : n % 10000000 / 10 / 10 / 10 / 10 / 10 % 10 ≡ n / 10 / 10 / 10 / 10 / 10 % 10
+    fifth = omega arith
+
+    fourth : n % 10000000 / 10 / 10 / 10 / 10 % 10 ≡ n / 10 / 10 / 10 / 10 % 10
+    fourth = omega arith
+
+    third : n % 10000000 / 10 / 10 / 10 % 10 ≡ n / 10 / 10 / 10 % 10
+    third = omega arith
+
+    second : n % 10000000 / 10 / 10 % 10 ≡ n / 10 / 10 % 10
+    second = omega arith
+
+    first : n % 10000000 / 10 % 10 ≡ n / 10 % 10
+    first = omega arith
+
+    zeroth : n % 10000000 % 10 ≡ n % 10
+    zeroth = omega arith
+
+-- What the hole `{:07}` writes.
+seven_written : (n : ℕ) → n < 10000000
+    → padded_integral (format_spec 32 0 4 7 (2 ^ 64 - 1)) false [] (decimal n) ≡ last_digits 10 7 n
+unfolding padded_integral char_count
+seven_written n h =
+    ap (λ (x : ℕ). replicate x 48 ++ (decimal n ++ [])) padding
+    ∙ ap (λ (x : List ℕ). replicate (7 - length (decimal n)) 48 ++ x) (append-nil (decimal n) ∙ own.last)
+    ∙ zeros_before (length (decimal n)) (7 - length (decimal n)) n own.fewest.1
+    ∙ ap (λ (x : ℕ). last_digits 10 x n) all
+  where
+    own : OwnDigits n (decimal n)
+    own = own_digits n (omega arith)
+
+    few : length (decimal n) ≤ 7
+    few = length-decimal-le 7 n (omega arith) (omega arith) (omega arith)
+
+    padding : 7 - length (decimal n) - 0 - 0 ≡ 7 - length (decimal n)
+    padding = omega arith
+
+    all : 7 - length (decimal n) + length (decimal n) ≡ 7
+    all = omega (arith, few)
+
+pub written : (negative : Bool) (d : Decimal) (sign : List ℕ) → d.whole < 2 ^ 64 → sign ≡ cond negative (45 ∷ []) []
+    → sign ++ (decimal d.whole ++ 46 ∷ padded_integral (format_spec 32 0 4 7 (2 ^ 64 - 1)) false [] (decimal (d.fraction % 10000000)))
+    ≡ spelt negative d
+unfolding spelt
+written negative d sign h is =
+    ap (λ (x : List ℕ). x ++ (decimal d.whole ++ 46 ∷ padded_integral (format_spec 32 0 4 7 (2 ^ 64 - 1)) false [] (decimal (d.fraction % 10000000)))) is
+    ∙ ap (λ (x : List ℕ). cond negative (45 ∷ []) [] ++ (decimal d.whole ++ 46 ∷ x)) (seven_written (d.fraction % 10000000) (mod-lt d.fraction (omega arith)) ∙ seven d.fraction)
+    ∙ ap (λ (x : List ℕ). cond negative (45 ∷ []) [] ++ (x ++ 46 ∷ last_digits 10 7 d.fraction)) (own_digits d.whole h).last
+    ∙ signed-is negative (pointed (length (decimal d.whole)) d)
+  where
+    signed-is : (b : Bool) (text : List ℕ) → cond b (45 ∷ []) [] ++ text ≡ signed b text
+    signed-is true text = refl
+    signed-is false text = refl
+
+pub spelt_is : (negative : Bool) (d : Decimal) → d.whole < 2 ^ 64 → Spelt negative d (spelt negative d)
+unfolding spelt
+spelt_is negative d h = record { places = length (decimal d.whole); fewest = (own_digits d.whole h).fewest; reads = refl }

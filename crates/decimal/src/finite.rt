@@ -5,9 +5,7 @@ ghost use Rattle.decimal.specs.Magnitude.{ten_millionths, cut, told};
 ghost use Rattle.decimal.specs.FiniteLaws.{Held};
 
 use crate::fraction::ten_millionths;
-use crate::{Decimal, Magnitude};
-
-const ONE: u64 = 10000000;
+use crate::{Decimal, Magnitude, ONE};
 
 // Rounding up may fill the seven digits.
 fn carried(whole: u64, fraction: u64) -> Decimal

@@ -2,7 +2,7 @@
 ghost use Rattle.std.specs.Prelude.{◌≡◌, ◌&&◌, ◌||◌, ltb, eqb, ◌+◌, ◌*◌, ◌%◌, ◌≤◌, ◌<◌, ◌^◌};
 ghost use Rattle.decimal.specs.Rounding.{half_to_even};
 
-const ONE: u64 = 10000000;
+use crate::ONE;
 
 const HALF_WORD: u64 = 4294967296;
 

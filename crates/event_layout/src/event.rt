@@ -5,7 +5,7 @@ ghost use Rattle.kinds.specs.Event.{told_apart, BareOf, is_event, OwnPair};
 ghost use Rattle.event_layout.specs.Event.{bit, double_bytes, event_bytes, event_of, feature_of, spare_zero, read_event};
 
 use crate::head::{put_first, put_two};
-use kinds::event::{Bare, Event, Heard, Uses};
+use kinds::event::{Event, Heard, Uses, Xy};
 use numbers::{put_u64, u32_at, u64_at};
 
 // What a pair's record begins with, as one number: its kind, and no other field.
@@ -14,7 +14,7 @@ const XY_HEAD: u64 = 64;
 fn byte_of(on: bool) -> u8
     ensures { result ≡ bit on }
 {
-    if on { 1 } else { 0 }
+    u8::from(on)
 }
 
 fn put_doubles(bytes: &mut [u8], e: Event)
@@ -44,26 +44,18 @@ pub fn event_of(bytes: &[u8]) -> Event
     requires { length bytes.now ≡ 64 }
     ensures { result ≡ event_of bytes.now }
 {
-    let size = u32_at(bytes, 4);
-    let idx = u32_at(bytes, 8);
-    let x = u64_at(bytes, 16);
-    let y = u64_at(bytes, 24);
-    let z = u64_at(bytes, 32);
-    let m = u64_at(bytes, 40);
-    let t = u64_at(bytes, 48);
-    let tm = u64_at(bytes, 56);
     Event {
         kind: bytes[0],
         tagged: bytes[1] == 1,
         present: bytes[2],
-        size,
-        idx,
-        x,
-        y,
-        z,
-        m,
-        t,
-        tm,
+        size: u32_at(bytes, 4),
+        idx: u32_at(bytes, 8),
+        x: u64_at(bytes, 16),
+        y: u64_at(bytes, 24),
+        z: u64_at(bytes, 32),
+        m: u64_at(bytes, 40),
+        t: u64_at(bytes, 48),
+        tm: u64_at(bytes, 56),
     }
 }
 
@@ -115,20 +107,20 @@ pub fn read_event(bytes: &[u8]) -> Heard
 }
 
 // The pair that bytes are if they are an xy event: what read_event says of it, short enough to stand in two places.
-pub fn read_bare(bytes: &[u8]) -> Bare
+pub fn read_bare(bytes: &[u8]) -> Option<Xy>
     ensures { BareOf (read_event bytes.now) result }
 {
     if bytes.len() != 64 {
-        return Bare::Other;
+        return None;
     }
     let e = event_of(bytes);
     if e.kind != Event::XY {
-        return Bare::Other;
+        return None;
     }
     if spare_zero(bytes) & e.keeps(Event::XY_USES) {
-        Bare::Pair { x: e.x, y: e.y }
+        Some(Xy { x: e.x, y: e.y })
     } else {
-        Bare::Other
+        None
     }
 }
 
@@ -146,11 +138,8 @@ pub fn is_event(bytes: &[u8]) -> bool
     }
     let uses = Event::uses(e.kind);
     let plain = Uses {
-        idx: uses.idx,
-        tagged: uses.tagged,
-        size: uses.size,
-        pair: uses.pair,
         present: false,
+        ..uses
     };
     sound & e.keeps(plain)
 }

@@ -2,3 +2,5 @@ pub mod Saying
 pub mod Log
 pub mod LogLaws
 pub mod Values
+pub mod Says
+pub mod SaysLaws

@@ -6,7 +6,7 @@ use Rattle.laws.specs.Runs.{lent_part}
 use Rattle.laws.specs.Script.{Format, one, out, put, room_at, room_in_lem, run, one-put}
 
 module _ {A : Type 0} (F : Format A) (a : A) (log : List ℕ) (n : ℕ) (room : room_at F.wide log n ≡ true) where
-  whole : F.wide * n + F.wide ≤ length log
+  pub whole : F.wide * n + F.wide ≤ length log
   whole =
       let enough : suc n * F.wide ≤ length log = (le-div_iff_mul-le F.some).0 (room_in_lem F.wide log n room).1 in
       omega (arith, mul_comm (suc n) F.wide, mul-suc F.wide n)

@@ -1,15 +1,13 @@
-// The log: event records one after the other, each with the number of its feature.
+// Bytes heard as events.
 ghost use Rattle.std.specs.Prelude.{◌≡◌, true, length};
-ghost use Rattle.laws.specs.Script.{one, out, run};
 ghost use Rattle.kinds.specs.declared.event.Event.{Event};
 ghost use Rattle.kinds.specs.Event.{WellFormed, told_apart, BareOf, is_event, OwnPair};
-ghost use Rattle.event_log.specs.Log.{events, heard, feature_in, rest_number};
+ghost use Rattle.kinds.specs.Refusal.{answer_of};
+ghost use Rattle.event_log.specs.Log.{heard, feature_in, rest_number};
 
 use crate::EVENT_BYTES;
-use crate::room::has_room;
-use kinds::answer::Answer;
-use kinds::event::{Bare, Event, Heard};
-use kinds::refusal;
+use kinds::event::{Event, Heard, Xy};
+use kinds::refusal::Refusal;
 
 // What bytes are: a pair, a coordinate, a begin that sets no type, any other event, or malformed.
 pub fn hear(bytes: &[u8]) -> Heard
@@ -19,7 +17,7 @@ pub fn hear(bytes: &[u8]) -> Heard
 }
 
 // The pair that bytes are if they are an xy event: a quick look, for a caller that gives a pair by itself.
-pub fn hear_bare(bytes: &[u8]) -> Bare
+pub fn hear_bare(bytes: &[u8]) -> Option<Xy>
     ensures { BareOf (heard bytes.now) result }
 {
     event_layout::read_bare(bytes)
@@ -56,32 +54,13 @@ pub fn feature_in(bytes: &[u8]) -> u32
     event_layout::feature_of(bytes)
 }
 
-// Writes the next record of a feature's log that has `count` of them, or refuses with 9.
-pub fn say(log: &mut [u8], feature: u32, count: usize, e: Event) -> Answer
-    ensures { run (events feature) (one e) log.old count ≡ out result.number result.count log.new }
-{
-    if !has_room(log, EVENT_BYTES, count) {
-        return Answer {
-            number: refusal::LOG_FULL,
-            count,
-        };
-    }
-    let from = EVENT_BYTES * count;
-    let end = from + EVENT_BYTES;
-    event_layout::put_event(&mut log[from..end], feature, e);
-    Answer {
-        number: refusal::DONE,
-        count: count + 1,
-    }
-}
-
 // What is left over behind the whole records of a list is malformed.
-pub fn rest_number(length: usize) -> u8
-    ensures { result ≡ rest_number length }
+pub fn no_rest(length: usize) -> Result<(), Refusal>
+    ensures { answer_of result ≡ rest_number length }
 {
     if length % EVENT_BYTES == 0 {
-        refusal::DONE
+        Ok(())
     } else {
-        refusal::MALFORMED
+        Err(Refusal::Malformed)
     }
 }

@@ -2,11 +2,12 @@
 #![tactic(auto)]
 
 mod events;
-mod room;
-mod values;
+mod layouts;
+mod log;
 
-pub use events::{event_in, feature_in, hear, hear_bare, is_event, is_pair, rest_number, say};
-pub use values::say_value;
+pub use events::{event_in, feature_in, hear, hear_bare, is_event, is_pair, no_rest};
+pub use layouts::{EventLog, Events, ValueLog, Values};
+pub use log::{Layout, Log};
 
 // How wide the records are.
 pub const EVENT_BYTES: usize = 64;

@@ -1,5 +1,5 @@
 -- The call `read`: its contract, over a tree that means a geometry, says that the log gets that geometry's events.
-use Rattle.std.specs.Prelude.{◌≡◌, true, List, ℕ, ◌≤◌, length, drop}
+use Rattle.std.specs.Prelude.{◌≡◌, Some, None, true, List, ℕ, ◌≤◌, length, drop}
 use Rattle.std.proofs.Math.Path.{refl}
 use Rattle.std.proofs.Math.Option.{some}
 use Rattle.std.proofs.Common.{arith, length-take}
@@ -7,12 +7,9 @@ use Rattle.laws.specs.Every.{never}
 use Rattle.laws.specs.Cut.{room_of, Said}
 use Rattle.kinds.specs.Lanes.{xyL}
 use Rattle.kinds.specs.declared.flags.Flags.{Flags}
-use Rattle.kinds.specs.declared.geometry.Span.{Span}
-use Rattle.kinds.specs.declared.geometry.Span.TheVariants.{Absent, Stretch}
-use Rattle.kinds.specs.declared.geometry.Judged.{Judged}
-use Rattle.kinds.specs.declared.geometry.Judged.TheVariants.{Good, Bad}
+use Rattle.kinds.specs.Geometry.{Span}
 use Rattle.event_log.specs.Log.{events}
-use Rattle.store.specs.Records.{record_at}
+use Rattle.store.specs.Records.{Judged, record_at}
 use Rattle.store.specs.RecordLaws.{InPool, within}
 use Rattle.store.specs.Lists.{Pools, lent_of, list_of, seen, record_with}
 use Rattle.lines.specs.Lines.{or_none}
@@ -26,8 +23,8 @@ use Rattle.format.proofs.ReadLaws.{reads}
 
 module _ (table : List ℕ) (P : Pools) where
   stretch_small : (s : Span) → InPool s (length P.xy) 131072 → length (or_none (list_of P.xy s)) ≤ 131072
-  stretch_small Absent h = omega arith
-  stretch_small (Stretch start count) h = omega (arith, h.1, length-take count (drop start P.xy))
+  stretch_small None h = omega arith
+  stretch_small (Some s) h = omega (arith, h.1, length-take s.count (drop s.start P.xy))
 
   -- a record of a table and pools has no more xy words than may be used
   pub usable_small : AllSmall (record_with table P)
@@ -35,8 +32,8 @@ module _ (table : List ℕ) (P : Pools) where
   usable_small n p e = go (record_at table (lent_of P) n) refl e
     where
       go : (j : Judged) → record_at table (lent_of P) n ≡ j → seen P j ≡ some p → Small p
-      go Bad r e = absurd (never (cc))
-      go (Good g) r e =
+      go None r e = absurd (never (cc))
+      go (Some g) r e =
           let same : p.xy ≡ list_of P.xy g.xy = cc in
           rw same (omega (arith, stretch_small g.xy ((within table (lent_of P) n g r).lists xyL)))
 

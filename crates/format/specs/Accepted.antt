@@ -1,10 +1,9 @@
 -- A geometry whose first event is not refused is kept: as itself, or promoted.
-use Rattle.std.specs.Prelude.{◌≡◌, refl, Bool, true, false, cond, ◌&&◌, [], ◌∷◌, ℕ, ◌+◌, eqb}
+use Rattle.std.specs.Prelude.{◌≡◌, refl, Bool, true, false, cond, ◌&&◌, [], ◌∷◌, ℕ, ◌+◌, eqb, Some, None}
 use Rattle.std.proofs.Common.{sym, ◌∙◌, arith, eqb-true}
 use Rattle.laws.specs.Every.{never, both}
 use Rattle.kinds.specs.declared.flags.Flags.{Flags}
 use Rattle.asking.specs.declared.typing.Typing.{Typing}
-use Rattle.asking.specs.declared.set_type.Typed.TheVariants.{Set, Mixed}
 use Rattle.asking.specs.SetType.{typed_number, set_type}
 use Rattle.writer_model.specs.Writer.{nay}
 use Rattle.geometries.specs.Geometry.{Simple, multi_line_string, multi_polygon, simple, Geometry, type_of}
@@ -19,7 +18,7 @@ data OneOf (a b c : Bool) : Type 0 where
   two : b ≡ true → OneOf a b c
   three : c ≡ true → OneOf a b c
 
-set-by : (a b p l : Bool) (x y z u : Typing) → typed_number (cond a (Set x) (cond b (Set y) (cond (p && false) (Set z) (cond l (Set u) Mixed)))) ≡ 0 → OneOf a b l
+set-by : (a b p l : Bool) (x y z u : Typing) → typed_number (cond a (Some x) (cond b (Some y) (cond (p && false) (Some z) (cond l (Some u) None)))) ≡ 0 → OneOf a b l
 set-by true b p l x y z u h = one refl
 set-by false true p l x y z u h = two refl
 set-by false false p true x y z u h = three refl

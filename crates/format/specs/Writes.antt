@@ -1,5 +1,5 @@
 -- What the writer makes of a geometry's events means that geometry.
-use Rattle.std.specs.Prelude.{◌≡◌, Bool, cond, ◌&&◌, ◌||◌, ℕ, length, eqb}
+use Rattle.std.specs.Prelude.{◌≡◌, Some as Set, Bool, cond, ◌&&◌, ◌||◌, ℕ, length, eqb}
 use Rattle.std.proofs.Math.Path.{refl}
 use Rattle.std.proofs.Common.{◌∙◌, eq-eqb}
 use Rattle.std.proofs.Math.Bool.{true, false}
@@ -8,7 +8,6 @@ use Rattle.std.proofs.Math.Option.{Option, some}
 use Rattle.kinds.specs.Event.{begin_e}
 use Rattle.store.specs.Lists.{Rec}
 use Rattle.asking.specs.declared.typing.Typing.{Typing}
-use Rattle.asking.specs.declared.set_type.Typed.TheVariants.{Set}
 use Rattle.asking.specs.SetType.{typing, typed_number, unknown_type, collected, set_type}
 use Rattle.asking.specs.Ask.{begun}
 use Rattle.writer_model.specs.Writer.{Writer, fresh, typed_to, after, nay, finish, tree, next}

@@ -1,18 +1,14 @@
 -- SPEC 3.5, 3.6: a geometry record. Type, present bits and two spare bytes; start and count, four bytes each, of xy, ends, z, m, t, tm and parts; four spare bytes.
-use Rattle.std.specs.Prelude.{Bool, cond, true, false, ◌&&◌, ◌||◌, List, [], ◌∷◌, ◌++◌, ℕ, ◌+◌, length, get_or, ltb, eqb}
+use Rattle.std.specs.Prelude.{Option, Some, None, Bool, cond, true, false, ◌&&◌, ◌||◌, List, [], ◌∷◌, ◌++◌, ℕ, ◌+◌, length, get_or, ltb, eqb}
 use Rattle.laws.specs.Bytes.{le, word_at}
 use Rattle.kinds.specs.Event.{bit_set}
-use Rattle.kinds.specs.Geometry.{start_of, count_of}
+use Rattle.kinds.specs.Geometry.{Span, stretch, start_of, count_of}
 use Rattle.kinds.specs.declared.geometry.Geometry.{Geometry}
-use Rattle.kinds.specs.declared.geometry.Span.{Span}
-use Rattle.kinds.specs.declared.geometry.Span.TheVariants.{Absent, Stretch}
-use Rattle.kinds.specs.declared.geometry.Judged.{Judged}
-use Rattle.kinds.specs.declared.geometry.Judged.TheVariants.{Good, Bad}
 
 -- ---- laid down
 abbrev pub shown : Span → ℕ → ℕ
-shown Absent bit = 0
-shown (Stretch start count) bit = bit
+shown None bit = 0
+shown (Some s) bit = bit
 
 unfoldable pub present_of : Geometry → ℕ
 present_of g = shown g.xy 1 + shown g.ends 2 + shown g.z 4 + shown g.m 8 + shown g.t 16 + shown g.tm 32 + shown g.parts 64
@@ -31,8 +27,8 @@ geometry_bytes g =
 
 -- ---- read back: the list whose pair stands at a place, if its present bit is set
 abbrev pub span_if : Bool → ℕ → ℕ → Span
-span_if true start count = Stretch start count
-span_if false start count = Absent
+span_if true start count = Some (stretch start count)
+span_if false start count = None
 
 abbrev pub present : List ℕ → ℕ → Bool
 present l bit = bit_set (get_or l 1 0) bit
@@ -65,5 +61,5 @@ sound_geometry l =
     && absent_zero l 16 36 && absent_zero l 32 44 && absent_zero l 64 52
 
 -- any bytes are a geometry or bad
-unfoldable pub read_geometry : List ℕ → Judged
-read_geometry l = cond (eqb (length l) 64 && sound_geometry l) (Good (geometry_of l)) Bad
+unfoldable pub read_geometry : List ℕ → Option Geometry
+read_geometry l = cond (eqb (length l) 64 && sound_geometry l) (Some (geometry_of l)) None

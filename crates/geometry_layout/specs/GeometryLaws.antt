@@ -1,15 +1,12 @@
 -- A geometry laid down reads back as itself, and what reads as a geometry is what laying that geometry down gives.
-use Rattle.std.specs.Prelude.{◌≡◌, refl, Bool, true, false, cond, ◌&&◌, ◌||◌, List, ◌++◌, ℕ, ◌+◌, ◌*◌, ◌/◌, ◌%◌, ◌<◌, ◌≤◌, length, get_or, take, drop, ltb, eqb}
+use Rattle.std.specs.Prelude.{◌≡◌, refl, Some, None, Bool, true, false, cond, ◌&&◌, ◌||◌, List, ◌++◌, ℕ, ◌+◌, ◌*◌, ◌/◌, ◌%◌, ◌<◌, ◌≤◌, length, get_or, take, drop, ltb, eqb}
 use Rattle.std.proofs.Common.{sym, ap, ◌∙◌, zero-le, arith, mul-zero, mul-one, lit≤}
 use Rattle.std.proofs.Math.Seq.{take_all}
 use borrow.Author.Tests.{eq-eqb, ne_eqb, eqb-true, eqb-false, lt-ltb, ltb-true}
 use Rattle.laws.specs.Every.{both, every-at}
 use Rattle.laws.specs.Bytes.{le, unle, word_at, Bytes, unle-le, le_part, joined, four-at}
-use Rattle.kinds.specs.Geometry.{start_of, count_of, SpanSized, GeometrySized}
+use Rattle.kinds.specs.Geometry.{Span, start_of, count_of, SpanSized, GeometrySized}
 use Rattle.kinds.specs.declared.geometry.Geometry.{Geometry}
-use Rattle.kinds.specs.declared.geometry.Span.{Span}
-use Rattle.kinds.specs.declared.geometry.Span.TheVariants.{Absent, Stretch}
-use Rattle.kinds.specs.declared.geometry.Judged.TheVariants.{Good, Bad}
 use Rattle.geometry_layout.specs.Geometry.{head_bytes, shown, present_of, span_bytes, geometry_bytes, span_if, present, span_at, geometry_of, absent_zero, sound_geometry, read_geometry}
 
 pub geometry_length : (g : Geometry) → length (geometry_bytes g) ≡ 64
@@ -18,19 +15,19 @@ geometry_length g = refl
 
 -- ---- there and back
 abbrev there : Span → Bool
-there Absent = false
-there (Stretch start count) = true
+there None = false
+there (Some s) = true
 
 abbrev one : Span → ℕ
 one s = cond (there s) 1 0
 
 one-le : (s : Span) → one s ≤ 1
-one-le Absent = omega arith
-one-le (Stretch start count) = omega arith
+one-le None = omega arith
+one-le (Some s) = omega arith
 
 shown-one : (s : Span) (bit : ℕ) → shown s bit ≡ bit * one s
-shown-one Absent bit = sym (mul-zero bit)
-shown-one (Stretch start count) bit = sym (mul-one bit)
+shown-one None bit = sym (mul-zero bit)
+shown-one (Some s) bit = sym (mul-one bit)
 
 record Bits (p a b c d e f g : ℕ) : Type 0 where
   xy : p / 1 % 2 ≡ a
@@ -53,12 +50,12 @@ present-bits g =
 
 -- a list's pair of numbers under its present bit, where that says whether it is there
 one-there : (s : Span) (x : ℕ) → x ≡ one s → eqb x 1 ≡ there s
-one-there Absent x e = ne_eqb x 1 (λ z. omega arith)
-one-there (Stretch start count) x e = eq-eqb x 1 e
+one-there None x e = ne_eqb x 1 (λ z. omega arith)
+one-there (Some s) x e = eq-eqb x 1 e
 
 back : (s : Span) (b : Bool) (x y : ℕ) → b ≡ there s → x ≡ start_of s → y ≡ count_of s → (span_if b x y ≡ s) × ((b || (eqb x 0 && eqb y 0)) ≡ true)
-back Absent b x y e f g = (rw e, rw (e, f, g))
-back (Stretch start count) b x y e f g = (rw (e, f, g), rw e)
+back None b x y e f g = (rw e, rw (e, f, g))
+back (Some s) b x y e f g = (rw (e, f, g), rw e)
 
 module _ (g : Geometry) (sized : GeometrySized g) where
   span_back : (s : Span) → SpanSized s → (x : ℕ) → x ≡ one s
@@ -96,7 +93,7 @@ module _ (g : Geometry) (sized : GeometrySized g) where
         (span_back g.parts sized.parts _ p.parts).1,
       )
 
-  pub geometry_back : read_geometry (geometry_bytes g) ≡ Good g
+  pub geometry_back : read_geometry (geometry_bytes g) ≡ Some g
   unfolding read_geometry
   geometry_back = rw (geometry_length g, sound_back, lists_back)
 
@@ -201,11 +198,11 @@ module _ (l : List ℕ) (bytes : Bytes l) (long : length l ≡ 64) where
         (ap (le 4) (sym said.last) ∙ number 60 (lit≤ tt))
         ∙ take_all 64 l (omega arith)
 
-pub geometry_forth : (l : List ℕ) (g : Geometry) → Bytes l → read_geometry l ≡ Good g → geometry_bytes g ≡ l
+pub geometry_forth : (l : List ℕ) (g : Geometry) → Bytes l → read_geometry l ≡ Some g → geometry_bytes g ≡ l
 unfolding read_geometry
 geometry_forth l g b h = go (eqb (length l) 64) (sound_geometry l) refl refl h
   where
-    go : (p q : Bool) → eqb (length l) 64 ≡ p → sound_geometry l ≡ q → cond (p && q) (Good (geometry_of l)) Bad ≡ Good g → geometry_bytes g ≡ l
+    go : (p q : Bool) → eqb (length l) 64 ≡ p → sound_geometry l ≡ q → cond (p && q) (Some (geometry_of l)) None ≡ Some g → geometry_bytes g ≡ l
     go true true p q h = let same : geometry_of l ≡ g = cc in rw same at (lists_forth l b (eqb-true (length l) 64 p) q)
     go true false p q h = let z : ◌≡◌ {A = ℕ} 0 1 = cc in absurd (omega arith)
     go false q p r h = let z : ◌≡◌ {A = ℕ} 0 1 = cc in absurd (omega arith)

@@ -1,13 +1,10 @@
 -- A geometry record that has an xy list and no other, known by a few of its words.
-use Rattle.std.specs.Prelude.{◌≡◌, Bool, true, cond, ◌&&◌, List, ℕ, ◌+◌, ◌≤◌, length, get_or, eqb}
+use Rattle.std.specs.Prelude.{◌≡◌, Some, None, Bool, true, cond, ◌&&◌, List, ℕ, ◌+◌, ◌≤◌, length, get_or, eqb}
 use Rattle.std.proofs.Common.{arith, lit≤}
 use borrow.Author.Tests.{eq-eqb, eqb-true}
 use Rattle.laws.specs.Every.{both}
 use Rattle.laws.specs.Bytes.{word_at, eight_at}
-use Rattle.kinds.specs.Geometry.{lone_geometry}
-use Rattle.kinds.specs.declared.geometry.Lone.{Lone}
-use Rattle.kinds.specs.declared.geometry.Lone.TheVariants.{List as Alone, Other}
-use Rattle.kinds.specs.declared.geometry.Judged.TheVariants.{Good}
+use Rattle.kinds.specs.Geometry.{Span, stretch, lone_geometry}
 use Rattle.geometry_layout.specs.Geometry.{geometry_of, sound_geometry, read_geometry}
 
 -- present bit 1 alone is set, and all from the second pair on is zero
@@ -17,8 +14,8 @@ is_lone l =
     && eqb (word_at 8 l 12) 0 && eqb (word_at 8 l 20) 0 && eqb (word_at 8 l 28) 0
     && eqb (word_at 8 l 36) 0 && eqb (word_at 8 l 44) 0 && eqb (word_at 8 l 52) 0 && eqb (word_at 4 l 60) 0
 
-unfoldable pub lone_in : List ℕ → Lone
-lone_in l = cond (is_lone l) (Alone (word_at 4 l 4) (word_at 4 l 8)) Other
+unfoldable pub lone_in : List ℕ → Span
+lone_in l = cond (is_lone l) (Some (stretch (word_at 4 l 4) (word_at 4 l 8))) None
 
 -- ---- such a record reads as the geometry of its list
 module _ (l : List ℕ) (long : length l ≡ 64) (lone : is_lone l ≡ true) where
@@ -80,6 +77,6 @@ module _ (l : List ℕ) (long : length l ≡ 64) (lone : is_lone l ≡ true) whe
   unfolding geometry_of
   lone_lists = rw zeros.present
 
-  pub lone_read : read_geometry l ≡ Good (lone_geometry (get_or l 0 0) (word_at 4 l 4) (word_at 4 l 8))
+  pub lone_read : read_geometry l ≡ Some (lone_geometry (get_or l 0 0) (word_at 4 l 4) (word_at 4 l 8))
   unfolding read_geometry
   lone_read = rw (eq-eqb (length l) 64 long, lone_sound, lone_lists)

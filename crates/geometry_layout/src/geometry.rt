@@ -1,67 +1,41 @@
 // The 64-byte geometry record.
 ghost use Rattle.std.specs.Prelude.{◌≡◌, ◌+◌, ◌≤◌, ◌<◌, length};
 ghost use Rattle.std.proofs.lemmas.List.Edits.{sets};
-ghost use Rattle.kinds.specs.Geometry.{start_of, count_of};
 ghost use Rattle.geometry_layout.specs.Geometry.{head_bytes, present_of, shown, span_bytes, geometry_bytes, span_at, absent_zero, sound_geometry, geometry_of, read_geometry};
 ghost use Rattle.geometry_layout.specs.Lone.{is_lone, lone_in};
 
+use crate::place::{ENDS, M, PARTS, Place, T, TM, XY, Z};
 use kinds::event::bit_set;
-use kinds::geometry::{Geometry, Judged, Lone, Span};
+use kinds::geometry::{Geometry, Stretch};
 use numbers::{put_u32, u32_at, u64_at};
 
-fn start_of(s: Span) -> u32
-    ensures { result ≡ start_of s }
+// Of an absent list both are 0.
+fn put_list(bytes: &mut [u8], place: Place, list: Option<Stretch>)
+    requires { length bytes.old ≡ 64 }
+    ensures { bytes.new ≡ sets bytes.old place.at (span_bytes list) }
 {
-    match s {
-        Span::Absent => 0,
-        Span::Stretch { start, count: _ } => start,
-    }
+    let stretch = list.unwrap_or(Stretch { start: 0, count: 0 });
+    put_u32(bytes, place.at, stretch.start);
+    put_u32(bytes, place.at + 4, stretch.count);
 }
 
-fn count_of(s: Span) -> u32
-    ensures { result ≡ count_of s }
+fn shown_as(list: Option<Stretch>, place: Place) -> u8
+    ensures is { result ≡ shown list place.bit }
+    ensures small { result ≤ place.bit }
 {
-    match s {
-        Span::Absent => 0,
-        Span::Stretch { start: _, count } => count,
-    }
-}
-
-fn put_span(bytes: &mut [u8], at: usize, s: Span)
-    requires { at + 8 ≤ length bytes.old }
-    ensures { bytes.new ≡ sets bytes.old at (span_bytes s) }
-{
-    put_u32(bytes, at, start_of(s));
-    put_u32(bytes, at + 4, count_of(s));
-}
-
-fn shown_as(s: Span, bit: u8) -> u8
-    ensures is { result ≡ shown s bit }
-    ensures small { result ≤ bit }
-{
-    match s {
-        Span::Absent => 0,
-        Span::Stretch { start: _, count: _ } => bit,
-    }
+    if list.is_some() { place.bit } else { 0 }
 }
 
 fn present_of(g: Geometry) -> u8
     ensures { result ≡ present_of g }
 {
-    let xy = g.xy;
-    let ends = g.ends;
-    let z = g.z;
-    let m = g.m;
-    let t = g.t;
-    let tm = g.tm;
-    let parts = g.parts;
-    shown_as(xy, 1)
-        + shown_as(ends, 2)
-        + shown_as(z, 4)
-        + shown_as(m, 8)
-        + shown_as(t, 16)
-        + shown_as(tm, 32)
-        + shown_as(parts, 64)
+    shown_as(g.xy, XY)
+        + shown_as(g.ends, ENDS)
+        + shown_as(g.z, Z)
+        + shown_as(g.m, M)
+        + shown_as(g.t, T)
+        + shown_as(g.tm, TM)
+        + shown_as(g.parts, PARTS)
 }
 
 fn put_head(s: &mut [u8], kind: u8, present: u8)
@@ -78,34 +52,28 @@ pub fn put_geometry(bytes: &mut [u8], g: Geometry)
     requires { length bytes.old ≡ 64 }
     ensures { bytes.new ≡ geometry_bytes g }
 {
-    let xy = g.xy;
-    let ends = g.ends;
-    let z = g.z;
-    let m = g.m;
-    let t = g.t;
-    let tm = g.tm;
-    let parts = g.parts;
     put_head(bytes, g.kind, present_of(g));
-    put_span(bytes, 4, xy);
-    put_span(bytes, 12, ends);
-    put_span(bytes, 20, z);
-    put_span(bytes, 28, m);
-    put_span(bytes, 36, t);
-    put_span(bytes, 44, tm);
-    put_span(bytes, 52, parts);
+    put_list(bytes, XY, g.xy);
+    put_list(bytes, ENDS, g.ends);
+    put_list(bytes, Z, g.z);
+    put_list(bytes, M, g.m);
+    put_list(bytes, T, g.t);
+    put_list(bytes, TM, g.tm);
+    put_list(bytes, PARTS, g.parts);
     put_u32(bytes, 60, 0);
 }
 
-fn span_at(bytes: &[u8], bit: u8, at: usize) -> Span
-    requires { (length bytes.now ≡ 64) × (0 < bit) × (at + 8 ≤ 64) }
-    ensures { result ≡ span_at bytes.now bit at }
+fn list_at(bytes: &[u8], place: Place) -> Option<Stretch>
+    requires { length bytes.now ≡ 64 }
+    ensures { result ≡ span_at bytes.now place.bit place.at }
 {
-    if bit_set(bytes[1], bit) {
-        let start = u32_at(bytes, at);
-        let count = u32_at(bytes, at + 4);
-        Span::Stretch { start, count }
+    if bit_set(bytes[1], place.bit) {
+        Some(Stretch {
+            start: u32_at(bytes, place.at),
+            count: u32_at(bytes, place.at + 4),
+        })
     } else {
-        Span::Absent
+        None
     }
 }
 
@@ -113,32 +81,27 @@ fn geometry_of(bytes: &[u8]) -> Geometry
     requires { length bytes.now ≡ 64 }
     ensures { result ≡ geometry_of bytes.now }
 {
-    let xy = span_at(bytes, 1, 4);
-    let ends = span_at(bytes, 2, 12);
-    let z = span_at(bytes, 4, 20);
-    let m = span_at(bytes, 8, 28);
-    let t = span_at(bytes, 16, 36);
-    let tm = span_at(bytes, 32, 44);
-    let parts = span_at(bytes, 64, 52);
     Geometry {
         kind: bytes[0],
-        xy,
-        ends,
-        z,
-        m,
-        t,
-        tm,
-        parts,
+        xy: list_at(bytes, XY),
+        ends: list_at(bytes, ENDS),
+        z: list_at(bytes, Z),
+        m: list_at(bytes, M),
+        t: list_at(bytes, T),
+        tm: list_at(bytes, TM),
+        parts: list_at(bytes, PARTS),
     }
 }
 
-fn absent_zero(bytes: &[u8], bit: u8, at: usize) -> bool
-    requires { (length bytes.now ≡ 64) × (0 < bit) × (at + 8 ≤ 64) }
-    ensures { result ≡ absent_zero bytes.now bit at }
+fn absent_zero(bytes: &[u8], place: Place) -> bool
+    requires { length bytes.now ≡ 64 }
+    ensures { result ≡ absent_zero bytes.now place.bit place.at }
 {
-    bit_set(bytes[1], bit) | ((u32_at(bytes, at) == 0) & (u32_at(bytes, at + 4) == 0))
+    let at = place.at;
+    bit_set(bytes[1], place.bit) | ((u32_at(bytes, at) == 0) & (u32_at(bytes, at + 4) == 0))
 }
 
+// One conjunction of all tests, which makes no branch.
 fn sound_geometry(bytes: &[u8]) -> bool
     requires { length bytes.now ≡ 64 }
     ensures { result ≡ sound_geometry bytes.now }
@@ -147,25 +110,25 @@ fn sound_geometry(bytes: &[u8]) -> bool
         & (bytes[3] == 0)
         & (u32_at(bytes, 60) == 0)
         & (bytes[1] < 128)
-        & absent_zero(bytes, 1, 4)
-        & absent_zero(bytes, 2, 12)
-        & absent_zero(bytes, 4, 20)
-        & absent_zero(bytes, 8, 28)
-        & absent_zero(bytes, 16, 36)
-        & absent_zero(bytes, 32, 44)
-        & absent_zero(bytes, 64, 52)
+        & absent_zero(bytes, XY)
+        & absent_zero(bytes, ENDS)
+        & absent_zero(bytes, Z)
+        & absent_zero(bytes, M)
+        & absent_zero(bytes, T)
+        & absent_zero(bytes, TM)
+        & absent_zero(bytes, PARTS)
 }
 
-pub fn read_geometry(bytes: &[u8]) -> Judged
+pub fn read_geometry(bytes: &[u8]) -> Option<Geometry>
     ensures { result ≡ read_geometry bytes.now }
 {
     if bytes.len() != 64 {
-        return Judged::Bad;
+        return None;
     }
     if sound_geometry(bytes) {
-        Judged::Good(geometry_of(bytes))
+        Some(geometry_of(bytes))
     } else {
-        Judged::Bad
+        None
     }
 }
 
@@ -186,15 +149,16 @@ fn is_lone(bytes: &[u8]) -> bool
 }
 
 // The list of a record that has an xy list and no other: what read_geometry says of most parts, in a dozen loads.
-pub fn lone_list(bytes: &[u8]) -> Lone
+pub fn lone_list(bytes: &[u8]) -> Option<Stretch>
     requires { length bytes.now ≡ 64 }
     ensures { result ≡ lone_in bytes.now }
 {
     if is_lone(bytes) {
-        let start = u32_at(bytes, 4);
-        let count = u32_at(bytes, 8);
-        Lone::List { start, count }
+        Some(Stretch {
+            start: u32_at(bytes, 4),
+            count: u32_at(bytes, 8),
+        })
     } else {
-        Lone::Other
+        None
     }
 }

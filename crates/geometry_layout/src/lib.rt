@@ -2,5 +2,6 @@
 #![tactic(auto)]
 
 mod geometry;
+mod place;
 
 pub use geometry::{lone_list, put_geometry, read_geometry};

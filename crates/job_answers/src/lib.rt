@@ -1,71 +1,90 @@
-// What the program says to the library's answer, and what it does next.
+// A feature is finished: read back, compared and shown, and then left behind.
 #![tactic(auto)]
 
-use bbox::Box;
-use console::{end_line, say, say_refusal};
-use job_calls::Reply;
-use job_steps::{SENT_BYTES, Stage, Work, after_event};
-use kinds::answer::Answer;
-use kinds::refusal;
-use record_box::Boxed;
-use report::{show_box, show_geometry};
+use console::Refused;
+use event_log::EVENT_BYTES;
+use job_calls::Library;
+use job_file::Head;
+use job_steps::InHand;
+use report::{Feature, KEPT, show_box, show_geometry, show_properties};
+use std::alloc::{AllocError, Global};
+use std::io;
 
-fn say_refused(work: Work, call: &[u8], number: u8) {
-    if number != refusal::DONE {
-        work.say_feature();
-        say(call);
-        say_refusal(number);
-        end_line();
+// One event more than is kept to be compared.
+const LOG_BYTES: usize = EVENT_BYTES * (KEPT + 1);
+
+const VALUES_BYTES: usize = 65536;
+
+// Where a feature is read back to: its events, and its properties' values.
+#[derive(Drop)]
+pub struct Logs {
+    events: Vec<u8>,
+    values: Vec<u8>,
+}
+
+impl Logs {
+    pub fn new(alloc: Global) -> Result<Logs, AllocError> {
+        Ok(Logs {
+            events: vec![in alloc; 0u8; LOG_BYTES]?,
+            values: vec![in alloc; 0u8; VALUES_BYTES]?,
+        })
     }
 }
 
-fn after_finish(work: Work, number: u8) -> Work {
-    say_refused(work, b", finishing it: ", number);
-    work.after_finish(number != refusal::DONE)
+fn write_refused<W: io::Write>(
+    out: &mut W,
+    hand: &InHand,
+    call: &str,
+    refused: Refused,
+) -> io::Result<()> {
+    let ordinal = hand.ordinal();
+    writeln!(out, "feature {ordinal}, {call}: {refused}")
 }
 
 // A feature without a map has neither its box shown nor its properties.
-fn after_reading(work: Work, answer: Answer, feature: u32, sent: &[u8], log: &[u8]) -> Work {
-    if show_geometry(work.feature(feature), answer, sent, log) {
-        return work.to(Stage::Box);
+fn show_kept<W: io::Write>(
+    out: &mut W,
+    feature: Feature,
+    hand: &InHand,
+    library: &Library,
+    head: &Head,
+    logs: &mut Logs,
+) -> io::Result<()> {
+    let read = library.read(head.flags, &mut logs.events);
+    if !show_geometry(out, feature, read, hand.sent(), &logs.events)? {
+        return Ok(());
     }
-    work.to(Stage::Leave)
+    show_box(out, library.edges())?;
+    let read = library.read_properties(head.columns.types(), &mut logs.values);
+    show_properties(
+        out,
+        read,
+        hand.given(),
+        &logs.values,
+        library.properties(),
+        &head.columns,
+    )
 }
 
-fn after_box(work: Work, boxed: Boxed) -> Work {
-    show_box(boxed);
-    work.to(Stage::Values)
-}
-
-fn after_leaving(work: Work, number: u8) -> Work {
-    say_refused(work, b", leaving it behind: ", number);
-    work.after_feature()
-}
-
-fn answer_of(reply: Reply) -> Answer {
-    Answer {
-        number: reply.number,
-        count: reply.count,
+pub fn finish<W: io::Write>(
+    out: &mut W,
+    hand: &mut InHand,
+    library: &mut Library,
+    head: &Head,
+    logs: &mut Logs,
+) -> io::Result<()> {
+    if let Err(refused) = library.finish() {
+        hand.refuse();
+        write_refused(out, hand, "finishing it", refused)?;
     }
-}
-
-fn after(work: Work, answer: Answer, feature: u32, bbox: Box, sent: &[u8], log: &[u8]) -> Work {
-    let number = answer.number;
-    let stage = work.stage;
-    match stage {
-        Stage::Event => after_event(work, number, sent),
-        Stage::Finish => after_finish(work, number),
-        Stage::Back => after_reading(work, answer, feature, sent, log),
-        Stage::Box => after_box(work, Boxed { number, bbox }),
-        Stage::Leave => after_leaving(work, number),
-        Stage::Item => work,
-        Stage::Property => work,
-        Stage::Values => work,
-        Stage::Over => work,
+    let feature = hand.feature(library.feature());
+    match feature.is_kept() {
+        Ok(()) => show_kept(out, feature, hand, library, head, logs)?,
+        Err(reason) => writeln!(out, "{feature}: no map, {reason}")?,
     }
-}
-
-pub fn answered(work: Work, reply: Reply, sent: &[u8; SENT_BYTES], log: &[u8; SENT_BYTES]) -> Work {
-    let bbox = reply.bbox;
-    after(work, answer_of(reply), reply.feature, bbox, sent, log)
+    if let Err(refused) = library.leave() {
+        write_refused(out, hand, "leaving it behind", refused)?;
+    }
+    hand.leave();
+    Ok(())
 }

@@ -1,137 +1,82 @@
-// The columns of a job: a type for each, and then a slot for each, with the name's length and the name.
-ghost use Rattle.std.specs.Prelude.{◌≡◌, ◌<◌, length};
-
-use crate::fault;
-use crate::fault::Finding;
-use crate::input::{past, read};
+// The columns of a job.
+use crate::fault::{Fault, JobError, Wrong};
+use crate::source::Source;
 use kinds::column_type;
-use report::{COLUMNS, NAME_BYTES};
+use std::alloc::Global;
+use std::io;
+use std::io::Read;
 
-pub const BYTES: usize = COLUMNS + COLUMNS * NAME_BYTES;
+// So many columns a job may have.
+const MOST: usize = 32;
 
-pub fn wide(byte: u8) -> usize
-    ensures { result < 256 }
-{
-    byte as usize
+// The types stand in a row by themselves, as the library is given them.
+#[derive(Drop)]
+pub struct Columns {
+    types: Vec<u8>,
+    names: Vec<Vec<u8>>,
 }
 
-// Puts a column's type down, and its name's length.
-fn put_column(columns: &mut [u8], i: usize, kind: u8, name_bytes: u8)
-    requires { (length columns.old ≡ 8224) × (i < 32) }
-{
-    columns[i] = kind;
-    columns[COLUMNS + NAME_BYTES * i] = name_bytes;
-}
-
-fn read_name(columns: &mut [u8], i: usize, bytes: usize) -> usize
-    requires { (length columns.old ≡ 8224) × (i < 32) × (bytes < 256) }
-{
-    let from = COLUMNS + NAME_BYTES * i + 1;
-    let end = from + bytes;
-    read(&mut columns[from..end])
-}
-
-// A column's type and its name's length, as far as they were read.
-#[derive(Clone, Copy)]
-struct Column {
-    got: usize,
-    kind: u8,
-    name_bytes: u8,
-}
-
-fn read_head() -> Column {
-    let mut head = [0u8; 2];
-    let got = read(&mut head);
-    Column {
-        got,
-        kind: head[0],
-        name_bytes: head[1],
-    }
-}
-
-fn fault_of(column: Column) -> u8 {
-    if column.got < 2 {
-        return fault::CUT_COLUMN;
-    }
-    if column.kind > column_type::BINARY {
-        return fault::NO_COLUMN_TYPE;
-    }
-    fault::NONE
-}
-
-// A fault of its type is where the column begins, and a cut where the input ends.
-fn stopped(place: u64, column: Column, fault: u8) -> Finding {
-    if fault == fault::CUT_COLUMN {
-        return Finding {
-            place: past(place, column.got),
-            fault,
-        };
-    }
-    Finding { place, fault }
-}
-
-fn named(place: u64, got: usize, length: usize) -> Finding {
-    let fault = if got < length {
-        fault::CUT_NAME
-    } else {
-        fault::NONE
-    };
-    Finding {
-        place: past(place, got),
-        fault,
-    }
-}
-
-fn read_column(columns: &mut [u8], i: usize, place: u64) -> Finding
-    requires { (length columns.old ≡ 8224) × (i < 32) }
-{
-    let column = read_head();
-    let fault = fault_of(column);
-    if fault != fault::NONE {
-        return stopped(place, column, fault);
-    }
-    put_column(columns, i, column.kind, column.name_bytes);
-    let length = wide(column.name_bytes);
-    let got = read_name(columns, i, length);
-    named(past(place, 2), got, length)
-}
-
-pub fn read_columns(columns: &mut [u8], count: usize, start: u64) -> Finding {
-    if count > COLUMNS {
-        return Finding {
-            fault: fault::MANY_COLUMNS,
-            place: start,
-        };
-    }
-    if columns.len() != BYTES {
-        return Finding {
-            fault: fault::NO_ROOM,
-            place: start,
-        };
-    }
-    let mut done = Finding {
-        fault: fault::NONE,
-        place: start,
-    };
-    let mut i = 0;
-    while i < count {
-        done = read_column(columns, i, done.place);
-        if done.fault != fault::NONE {
-            return done;
+impl Columns {
+    fn new(alloc: Global) -> Columns {
+        Columns {
+            types: Vec::new(alloc),
+            names: Vec::new(alloc),
         }
-        i += 1;
     }
-    done
+
+    fn push(&mut self, kind: u8, name: Vec<u8>) -> io::Result<()> {
+        self.types.push(kind)?;
+        self.names.push(name)?;
+        Ok(())
+    }
+
+    pub fn types(&self) -> &[u8] {
+        self.types.as_slice()
+    }
+
+    pub fn has(&self, column: u32, kind: u8) -> bool {
+        self.types.get(column as usize) == Some(&kind)
+    }
+
+    // Any bytes may be a name. A number that is no column's has none.
+    pub fn name(&self, column: u16) -> &[u8] {
+        match self.names.get(usize::from(column)) {
+            Some(name) => name.as_slice(),
+            None => &[],
+        }
+    }
 }
 
-// Whether there is such a column among the first `count`, and of this type.
-pub fn is_of_type(columns: &[u8], count: usize, column: u32, kind: u8) -> bool {
-    let i = column as usize;
-    if i >= count {
-        return false;
+// A wrong type is wrong where its column begins.
+fn read_type<R: Read>(source: &mut Source<R>) -> Result<(u8, u8), JobError> {
+    let place = source.place();
+    let [kind, name_bytes] = source.next::<2>(Wrong::CutColumn)?;
+    if kind > column_type::BINARY {
+        return Err(JobError::from(Fault {
+            wrong: Wrong::NoColumnType,
+            place,
+        }));
     }
-    if i >= columns.len() {
-        return false;
+    Ok((kind, name_bytes))
+}
+
+pub fn read_columns<R: Read>(
+    alloc: Global,
+    source: &mut Source<R>,
+    count: usize,
+) -> Result<Columns, JobError> {
+    if count > MOST {
+        return Err(JobError::from(Fault {
+            wrong: Wrong::ManyColumns,
+            place: source.place(),
+        }));
     }
-    columns[i] == kind
+    let mut columns = Columns::new(alloc);
+    for _ in 0..count {
+        let (kind, name_bytes) = read_type(source)?;
+        let mut name = vec![in alloc; 0u8; usize::from(name_bytes)]?;
+        source.fill_all(&mut name, Wrong::CutName)?;
+        columns.push(kind, name)?;
+    }
+    Ok(columns)
 }

@@ -1,74 +1,102 @@
-// What an input that is no job has wrong, by a number, and the words for each, in the numbers' order with a bar between two.
-use console::{end_line, say, say_number, say_word};
+// What an input that is no job has wrong, and where.
+use std::alloc::{AllocError, AllocFailed};
+use std::error::Error;
+use std::{fmt, io};
 
-pub const NONE: u8 = 0;
+#[derive(Clone, Copy, Debug, PartialEq, Eq)]
+pub enum Wrong {
+    NoMark,
+    NoType,
+    BadDetect,
+    BadPromote,
+    NoFlags,
+    ManyColumns,
+    CutHead,
+    CutColumn,
+    NoColumnType,
+    CutName,
+    NoItem,
+    CutEvent,
+    CutProperty,
+    LongText,
+    CutText,
+}
 
-pub const NO_MARK: u8 = 1;
+impl fmt::Display for Wrong {
+    fn fmt<W: fmt::Write>(&self, f: &mut fmt::Formatter<W>) -> fmt::Result {
+        f.write_str(match self {
+            Wrong::NoMark => "it does not begin with JOB1,",
+            Wrong::NoType => "no such geometry type",
+            Wrong::BadDetect => "detect is neither 0 nor 1",
+            Wrong::BadPromote => "promote is neither 0 nor 1",
+            Wrong::NoFlags => "no such flags",
+            Wrong::ManyColumns => "more than 32 columns",
+            Wrong::CutHead => "cut short within its head",
+            Wrong::CutColumn => "cut short within a column",
+            Wrong::NoColumnType => "no such column type",
+            Wrong::CutName => "cut short within a column's name",
+            Wrong::NoItem => "no event, property or end of a feature",
+            Wrong::CutEvent => "cut short within an event",
+            Wrong::CutProperty => "cut short within a property",
+            Wrong::LongText => "a text of more than 65,536 bytes",
+            Wrong::CutText => "cut short within a text",
+        })
+    }
+}
 
-pub const NO_TYPE: u8 = 2;
-
-pub const BAD_DETECT: u8 = 3;
-
-pub const BAD_PROMOTE: u8 = 4;
-
-pub const NO_FLAGS: u8 = 5;
-
-pub const MANY_COLUMNS: u8 = 6;
-
-pub const CUT_HEAD: u8 = 7;
-
-pub const CUT_COLUMN: u8 = 8;
-
-pub const NO_COLUMN_TYPE: u8 = 9;
-
-pub const CUT_NAME: u8 = 10;
-
-pub const NO_ITEM: u8 = 11;
-
-pub const CUT_EVENT: u8 = 12;
-
-pub const CUT_PROPERTY: u8 = 13;
-
-pub const LONG_TEXT: u8 = 14;
-
-pub const CUT_TEXT: u8 = 15;
-
-pub const NO_ROOM: u8 = 16;
-
-// What reading found up to a place: a fault there, or none.
-#[derive(Clone, Copy)]
-pub struct Finding {
-    pub fault: u8,
+// Places are counted from 0.
+#[derive(Clone, Copy, Debug, PartialEq, Eq)]
+pub struct Fault {
+    pub wrong: Wrong,
     pub place: u64,
 }
 
-fn say_fault(fault: u8) {
-    say_word(
-        b"nothing|\
-it does not begin with JOB1,|\
-no such geometry type|\
-detect is neither 0 nor 1|\
-promote is neither 0 nor 1|\
-no such flags|\
-more than 32 columns|\
-cut short within its head|\
-cut short within a column|\
-no such column type|\
-cut short within a column's name|\
-no event, property or end of a feature|\
-cut short within an event|\
-cut short within a property|\
-a text of more than 65,536 bytes|\
-cut short within a text|\
-no room for columns",
-        fault,
-    );
+impl fmt::Display for Fault {
+    fn fmt<W: fmt::Write>(&self, f: &mut fmt::Formatter<W>) -> fmt::Result {
+        let wrong = self.wrong;
+        let place = self.place;
+        write!(f, "NOT A JOB: {wrong} at byte {place}")
+    }
 }
 
-pub fn not_a_job(fault: u8, place: u64) {
-    say(b"NOT A JOB: ");
-    say_fault(fault);
-    say(b" at byte ");
-    say_number(place);
-    end_line();
+// Why a job does not come to its end: it is none, or it could not be read, kept or told.
+#[derive(Debug, Drop)]
+pub enum JobError {
+    NoJob(Fault),
+    Io(io::Error),
+}
+
+impl fmt::Display for JobError {
+    fn fmt<W: fmt::Write>(&self, f: &mut fmt::Formatter<W>) -> fmt::Result {
+        match self {
+            JobError::NoJob(fault) => fault.fmt(f),
+            JobError::Io(error) => error.fmt(f),
+        }
+    }
+}
+
+impl Error for JobError {}
+
+impl From<Fault> for JobError {
+    fn from(fault: Fault) -> JobError {
+        JobError::NoJob(fault)
+    }
+}
+
+impl From<io::Error> for JobError {
+    fn from(error: io::Error) -> JobError {
+        JobError::Io(error)
+    }
+}
+
+impl From<AllocError> for JobError {
+    fn from(error: AllocError) -> JobError {
+        JobError::Io(io::Error::from(error))
+    }
+}
+
+impl<T: Drop> From<AllocFailed<T>> for JobError {
+    fn from(error: AllocFailed<T>) -> JobError {
+        JobError::Io(io::Error::from(error))
+    }
 }

@@ -1,13 +1,14 @@
-// A job as it stands in the input: its head, its columns and its properties, and what is said of an input that is no job.
+// A job as it stands in the input: its head, its columns and its items, and what is said of an input that is no job.
 #![tactic(auto)]
 
 mod columns;
-pub mod fault;
+mod fault;
 mod head;
-mod input;
-mod property;
+mod item;
+mod source;
 
-pub use columns::{BYTES as COLUMN_BYTES, is_of_type};
-pub use head::{Found, Head, read_head};
-pub use input::{Tag, past, read, read_tag};
-pub use property::{Property, keep, read_property, value_of};
+pub use columns::Columns;
+pub use fault::{Fault, JobError, Wrong};
+pub use head::Head;
+pub use item::{Item, Property};
+pub use source::Source;

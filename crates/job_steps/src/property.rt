@@ -1,109 +1,103 @@
-// The properties of a job: given to the writer, and shown when they were read back.
-use crate::work::{Stage, Work};
-use as_words::state::{PROPERTIES, StateWords};
-use console::{end_line, say, say_count, say_refusal};
-use job_file::{Property, fault, is_of_type, keep, read_property, value_of};
-use kinds::refusal;
-use report::{Properties, first, show_bad_text, show_properties};
+// A property is given to the library.
+use crate::in_hand::InHand;
+use console::Refused;
+use event_layout::put_value;
+use event_log::VALUE_BYTES;
+use job_calls::{BadValue, Library};
+use job_file::{Columns, Property};
+use kinds::column_type;
+use kinds::value::Value;
+use report::show_bad_text;
+use std::io;
 
-// For property bytes, for a text or value records, and for the values as they are to come back.
-pub const ROOM_BYTES: usize = 65536;
+// What stands before a number in property bytes, and before a text.
+const INDEX: u32 = 2;
 
-fn say_property(work: Work) {
-    work.say_feature();
-    say(b", property ");
-    say_count(work.properties);
-    say(b": ");
+const INDEX_AND_LENGTH: u32 = 6;
+
+fn column_of(property: &Property) -> u16 {
+    (property.column % 65536) as u16
 }
 
-fn after_property(work: Work, number: u8) -> Work {
-    let after = work.after_property(number != refusal::DONE);
-    if number != refusal::DONE {
-        say_property(after);
-        say_refusal(number);
-        end_line();
+// The value as it is to come back, from how many property bytes there were before it and after it.
+fn value_of(property: &Property, before: u32, after: u32) -> Value {
+    let column = column_of(property);
+    let kind = property.kind;
+    let added = after.wrapping_sub(before);
+    if kind < column_type::STRING {
+        return Value {
+            column,
+            kind,
+            len: added.wrapping_sub(INDEX),
+            word: property.bits,
+        };
     }
-    after
+    Value {
+        column,
+        kind,
+        len: added.wrapping_sub(INDEX_AND_LENGTH),
+        word: u64::from(before.wrapping_add(INDEX_AND_LENGTH)),
+    }
+}
+
+fn write_refused<W: io::Write>(
+    out: &mut W,
+    hand: &InHand,
+    property: &Property,
+    columns: &Columns,
+    bad: BadValue,
+) -> io::Result<()> {
+    let ordinal = hand.ordinal();
+    let count = hand.properties();
+    let refused = bad.refused;
+    writeln!(out, "feature {ordinal}, property {count}: {refused}")?;
+    if refused == Refused::NOT_UTF8 {
+        let text = property.text.as_slice();
+        show_bad_text(out, columns, column_of(property), text, bad.place)?;
+    }
+    Ok(())
 }
 
 // A value laid down as another type than its column's would be read as what it is not.
-fn mistyped(work: Work) -> Work {
-    let after = work.after_property(true);
-    say_property(after);
-    say(b"REFUSED by this program, its column is missing or of another type\n");
-    after
+fn refuse_type<W: io::Write>(out: &mut W, hand: &mut InHand) -> io::Result<()> {
+    hand.refuse();
+    let ordinal = hand.ordinal();
+    let count = hand.properties();
+    writeln!(
+        out,
+        "feature {ordinal}, property {count}: REFUSED by this program, its column is missing or of another type"
+    )
 }
 
-// `columns` has the types and names, `room` begins with the property's text, and `given` has the values as they are to come back.
-fn write_property(
-    work: Work,
-    state: &mut StateWords,
-    p: Property,
-    columns: &[u8],
-    room: &[u8],
-    bytes: &mut [u8],
-    given: &mut [u8],
-) -> Work {
-    let used = state[PROPERTIES];
-    let text = first(room, p.length);
-    let mut place = 0;
-    let number = bintolage::bintolage_property(
-        state, p.column, p.kind, p.bits, text, bytes, &mut place,
+pub fn take_property<W: io::Write>(
+    out: &mut W,
+    hand: &mut InHand,
+    library: &mut Library,
+    columns: &Columns,
+    property: &Property,
+) -> io::Result<()> {
+    hand.count_property();
+    if !columns.has(property.column, property.kind) {
+        return refuse_type(out, hand);
+    }
+    let before = library.property_bytes();
+    let answer = library.property(
+        property.column,
+        property.kind,
+        property.bits,
+        property.text.as_slice(),
     );
-    let value = value_of(p, used, state[PROPERTIES]);
-    keep(given, work.properties, value);
-    let after = after_property(work, number);
-    if number == refusal::NOT_UTF8 {
-        show_bad_text(columns, value.column, text, place);
+    let mut value = [0u8; VALUE_BYTES];
+    put_value(
+        &mut value,
+        value_of(property, before, library.property_bytes()),
+    );
+    hand.put_value(&value)?;
+    match answer {
+        Ok(()) => Ok(()),
+        Err(bad) => {
+            hand.refuse();
+            write_refused(out, hand, property, columns, bad)
+        }
     }
-    after
-}
-
-// Takes a property, if it is its turn: `columns` has the type of each column, of which there are `count`.
-pub fn take_property(
-    work: Work,
-    state: &mut StateWords,
-    count: usize,
-    columns: &[u8],
-    room: &mut [u8; ROOM_BYTES],
-    bytes: &mut [u8; ROOM_BYTES],
-    given: &mut [u8; ROOM_BYTES],
-) -> Work {
-    let stage = work.stage;
-    let Stage::Property = stage else {
-        return work;
-    };
-    let read = read_property(work.place, room);
-    let after = work.at(read.place);
-    if read.fault != fault::NONE {
-        return after.broken(read.fault);
-    }
-    let p = read.property;
-    if !is_of_type(columns, count, p.column, p.kind) {
-        return mistyped(after);
-    }
-    write_property(after, state, p, columns, room, bytes, given)
-}
-
-// Shows the properties as they come back, if it is their turn: so many bytes of them are used.
-pub fn show_values(
-    work: Work,
-    used: u32,
-    count: usize,
-    columns: &[u8],
-    given: &[u8; ROOM_BYTES],
-    bytes: &[u8; ROOM_BYTES],
-    room: &mut [u8; ROOM_BYTES],
-) -> Work {
-    let stage = work.stage;
-    let Stage::Values = stage else {
-        return work;
-    };
-    let properties = Properties {
-        given: work.properties,
-        bytes: used as usize,
-        columns: count,
-    };
-    show_properties(properties, given, bytes, columns, room);
-    work.to(Stage::Leave)
 }

@@ -1,11 +1,10 @@
 -- SPEC 2.3, 2.4, 3.3: the kinds of event, the fields that each uses, and the events that keep the rules.
-use Rattle.std.specs.Prelude.{◌≡◌, Bool, true, false, not, cond, ◌&&◌, ◌||◌, ℕ, ◌+◌, ◌-◌, ◌/◌, ◌%◌, ◌<◌, leb, ltb, eqb}
+use Rattle.std.specs.Prelude.{Option, Some, None, ◌≡◌, Bool, true, false, not, cond, ◌&&◌, ◌||◌, ℕ, ◌+◌, ◌-◌, ◌/◌, ◌%◌, ◌<◌, leb, ltb, eqb}
 use Rattle.kinds.specs.declared.event.Event.{Event}
 use Rattle.kinds.specs.declared.event.Uses.{Uses}
 use Rattle.kinds.specs.declared.event.Heard.{Heard}
 use Rattle.kinds.specs.declared.event.Heard.TheVariants.{Pair, Coordinate, Quiet, Other, Malformed as Unheard}
-use Rattle.kinds.specs.declared.event.Bare.{Bare}
-use Rattle.kinds.specs.declared.event.Bare.TheVariants.{Pair as BarePair, Other as BareOther}
+use Rattle.kinds.specs.declared.event.Xy.{Xy}
 
 -- the types that have events (SPEC 2.2)
 abbrev pub has_events : ℕ → Bool
@@ -93,9 +92,9 @@ told_apart (WellFormed e) =
     (cond (is_quiet e) Quiet (Other e)))
 
 -- a quick look: it tells of a pair that the bytes are one, and of anything else nothing
-abbrev pub BareOf : Parsed → Bare → Type 0
-BareOf p (BarePair x y) = told_apart p ≡ Pair x y
-BareOf p BareOther = Unit
+abbrev pub BareOf : Parsed → Option Xy → Type 0
+BareOf p (Some pair) = told_apart p ≡ Pair pair.x pair.y
+BareOf p None = Unit
 
 -- the number for each case: done, or 11 (SPEC 3.3)
 abbrev pub parsed_number : Parsed → ℕ

@@ -1,19 +1,23 @@
 -- A record's lists as stretches of the pools.
-use Rattle.std.specs.Prelude.{ℕ, ◌<◌}
+use Rattle.std.specs.Prelude.{ℕ, ◌<◌, Option, Some, None}
 use Rattle.kinds.specs.declared.geometry.Geometry.{Geometry}
-use Rattle.kinds.specs.declared.geometry.Span.{Span}
-use Rattle.kinds.specs.declared.geometry.Span.TheVariants.{Absent, Stretch}
-use Rattle.kinds.specs.declared.geometry.Judged.{Judged}
-use Rattle.kinds.specs.declared.geometry.Judged.TheVariants.{Good, Bad}
+use Rattle.kinds.specs.declared.geometry.Stretch.{Stretch}
+
+-- where a list stands, if it is there
+abbrev pub Span : Type 0
+Span = Option Stretch
+
+abbrev pub stretch : ℕ → ℕ → Stretch
+stretch start count = record { start = start; count = count }
 
 -- an absent list has start and count 0
 abbrev pub start_of : Span → ℕ
-start_of Absent = 0
-start_of (Stretch start count) = start
+start_of None = 0
+start_of (Some s) = s.start
 
 abbrev pub count_of : Span → ℕ
-count_of Absent = 0
-count_of (Stretch start count) = count
+count_of None = 0
+count_of (Some s) = s.count
 
 -- what every value of the types keeps
 pub record SpanSized (s : Span) : Type 0 where
@@ -30,10 +34,10 @@ pub record GeometrySized (g : Geometry) : Type 0 where
   pub parts : SpanSized g.parts
 
 -- the number for each case: done, or 10 (SPEC 3.9)
-abbrev pub judged_number : Judged → ℕ
-judged_number (Good g) = 0
-judged_number Bad = 10
+abbrev pub judged_number : Option Geometry → ℕ
+judged_number (Some g) = 0
+judged_number None = 10
 
 -- a record that has an xy list and no other
 abbrev pub lone_geometry : ℕ → ℕ → ℕ → Geometry
-lone_geometry kind start count = record { kind = kind; xy = Stretch start count; ends = Absent; z = Absent; m = Absent; t = Absent; tm = Absent; parts = Absent }
+lone_geometry kind start count = record { kind = kind; xy = Some (stretch start count); ends = None; z = None; m = None; t = None; tm = None; parts = None }

@@ -4,3 +4,6 @@ pub mod Flags
 pub mod Geometry
 pub mod Lanes
 pub mod LaneLaws
+pub mod Refusal
+pub mod ColumnType
+pub mod GeometryType

@@ -4,7 +4,7 @@ ghost use Rattle.kinds.specs.Event.{uses_of, keeps_uses, is_quiet, begin_e, end_
 
 use crate::flags::Flags;
 
-#[derive(Clone, Copy)]
+#[derive(Clone, Copy, Debug, PartialEq, Eq)]
 pub struct Event {
     pub kind: u8,
     pub tagged: bool,
@@ -20,7 +20,7 @@ pub struct Event {
 }
 
 // Which fields an event's kind uses: all use idx.
-#[derive(Clone, Copy)]
+#[derive(Clone, Copy, Debug, PartialEq, Eq)]
 pub struct Uses {
     pub idx: bool,
     pub tagged: bool,
@@ -30,7 +30,7 @@ pub struct Uses {
 }
 
 // What a record's bytes were heard as.
-#[derive(Clone, Copy)]
+#[derive(Clone, Copy, Debug, PartialEq, Eq)]
 pub enum Heard {
     // An xy event: no more than an index and a pair.
     Pair { x: u64, y: u64 },
@@ -43,11 +43,11 @@ pub enum Heard {
     Malformed,
 }
 
-// Bytes that were heard as an xy event, or as anything else.
-#[derive(Clone, Copy)]
-pub enum Bare {
-    Pair { x: u64, y: u64 },
-    Other,
+// A pair, as bit patterns.
+#[derive(Clone, Copy, Debug, PartialEq, Eq)]
+pub struct Xy {
+    pub x: u64,
+    pub y: u64,
 }
 
 impl Event {
@@ -121,18 +121,13 @@ impl Event {
 
     pub const POINT_BEGIN_USES: Uses = Uses {
         idx: true,
-        tagged: false,
-        size: false,
-        pair: false,
-        present: false,
+        ..Event::NO_USES
     };
 
     pub const BEGIN_USES: Uses = Uses {
         idx: true,
-        tagged: false,
         size: true,
-        pair: false,
-        present: false,
+        ..Event::NO_USES
     };
 
     // The begin of a LineString, a Polygon or a Triangle uses `tagged` too.
@@ -140,40 +135,31 @@ impl Event {
         idx: true,
         tagged: true,
         size: true,
-        pair: false,
-        present: false,
+        ..Event::NO_USES
     };
 
     pub const END_USES: Uses = Uses {
         idx: true,
-        tagged: false,
-        size: false,
-        pair: false,
-        present: false,
+        ..Event::NO_USES
     };
 
     pub const TAGGED_END_USES: Uses = Uses {
         idx: true,
         tagged: true,
-        size: false,
-        pair: false,
-        present: false,
+        ..Event::NO_USES
     };
 
     pub const XY_USES: Uses = Uses {
         idx: true,
-        tagged: false,
-        size: false,
         pair: true,
-        present: false,
+        ..Event::NO_USES
     };
 
     pub const COORDINATE_USES: Uses = Uses {
         idx: true,
-        tagged: false,
-        size: false,
         pair: true,
         present: true,
+        ..Event::NO_USES
     };
 
     // What a number that is no kind uses.
@@ -264,12 +250,13 @@ impl Event {
     pub fn begin(kind: u8, tagged: bool, size: u32, idx: u32) -> Event
         ensures { result ≡ begin_e kind tagged size idx }
     {
-        let mut e = Event::UNSET;
-        e.kind = kind;
-        e.tagged = tagged;
-        e.size = size;
-        e.idx = idx;
-        e
+        Event {
+            kind,
+            tagged,
+            size,
+            idx,
+            ..Event::UNSET
+        }
     }
 
     // The end of a geometry of a type.
@@ -277,22 +264,24 @@ impl Event {
         requires { kind < 32 }
         ensures { result ≡ end_e kind tagged idx }
     {
-        let mut e = Event::UNSET;
-        e.kind = kind + Event::END;
-        e.tagged = tagged;
-        e.idx = idx;
-        e
+        Event {
+            kind: kind + Event::END,
+            tagged,
+            idx,
+            ..Event::UNSET
+        }
     }
 
     pub fn xy(x: u64, y: u64, idx: u32) -> Event
         ensures { result ≡ xy_e x y idx }
     {
-        let mut e = Event::UNSET;
-        e.kind = Event::XY;
-        e.idx = idx;
-        e.x = x;
-        e.y = y;
-        e
+        Event {
+            kind: Event::XY,
+            idx,
+            x,
+            y,
+            ..Event::UNSET
+        }
     }
 
     pub fn coordinate(
@@ -307,17 +296,18 @@ impl Event {
     ) -> Event
         ensures { result ≡ coordinate_e x y present z m t tm idx }
     {
-        let mut e = Event::UNSET;
-        e.kind = Event::COORDINATE;
-        e.present = present;
-        e.idx = idx;
-        e.x = x;
-        e.y = y;
-        e.z = z;
-        e.m = m;
-        e.t = t;
-        e.tm = tm;
-        e
+        Event {
+            kind: Event::COORDINATE,
+            present,
+            idx,
+            x,
+            y,
+            z,
+            m,
+            t,
+            tm,
+            ..Event::UNSET
+        }
     }
 }
 

@@ -4,7 +4,7 @@ ghost use Rattle.kinds.specs.Flags.{flags_of};
 
 use crate::event::bit_set;
 
-#[derive(Clone, Copy)]
+#[derive(Clone, Copy, Debug, PartialEq, Eq)]
 pub struct Flags {
     pub z: bool,
     pub m: bool,

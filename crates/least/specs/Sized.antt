@@ -1,5 +1,5 @@
 -- Every event that a reading says fits a record of 64 bytes, where the pools that are lent hold words.
-use Rattle.std.specs.Prelude.{◌≡◌, Bool, ◌&&◌, ◌||◌, length, drop, ltb}
+use Rattle.std.specs.Prelude.{◌≡◌, Some, None, Bool, ◌&&◌, ◌||◌, length, drop, ltb}
 use Rattle.std.proofs.Math.Path.{refl}
 use Rattle.std.proofs.Math.Bool.{true, false, not}
 use mathlib.Core.List.{List, [], ◌∷◌}
@@ -13,11 +13,8 @@ use Rattle.kinds.specs.Event.{well_formed, begin_e, end_e}
 use Rattle.kinds.specs.Lanes.{xyL, endsL}
 use Rattle.kinds.specs.declared.event.Event.{Event}
 use Rattle.kinds.specs.declared.flags.Flags.{Flags}
-use Rattle.kinds.specs.declared.geometry.Span.{Span}
-use Rattle.kinds.specs.declared.geometry.Span.TheVariants.{Absent, Stretch}
-use Rattle.kinds.specs.declared.geometry.Judged.{Judged}
-use Rattle.kinds.specs.declared.geometry.Judged.TheVariants.{Good, Bad}
-use Rattle.store.specs.Records.{record_at}
+use Rattle.kinds.specs.Geometry.{Span}
+use Rattle.store.specs.Records.{Judged, record_at}
 use Rattle.store.specs.RecordLaws.{InPool, InTable, within}
 use Rattle.store.specs.Lists.{Pools, pools_of, Rec, lent_of, list_of, parts_of, lists_of, seen, record_with}
 use Rattle.coords.specs.Coords.{Coords, coords_of}
@@ -147,16 +144,16 @@ pub largest_words : InWords (pools_of (18446744073709551615 ∷ 1844674407370955
 largest_words = record { xy = words_tested (18446744073709551615 ∷ 18446744073709551615 ∷ []) refl; z = words_tested [] refl; m = words_tested [] refl; t = words_tested [] refl; tm = words_tested [] refl }
 
 stretch_words : (pool : List ℕ) (s : Span) → Words pool → WordsIn (list_of pool s)
-stretch_words pool Absent h = λ i. lit< tt
-stretch_words pool (Stretch start count) h = take_words count (drop start pool) (drop-words start pool h)
+stretch_words pool None h = λ i. lit< tt
+stretch_words pool (Some s) h = take_words s.count (drop s.start pool) (drop-words s.start pool h)
 
 stretch_short : (pool : List ℕ) (s : Span) (lent most : ℕ) → InPool s lent most → U32 most → U32 (length (or_none (list_of pool s)))
-stretch_short pool Absent lent most h k = lit< tt
-stretch_short pool (Stretch start count) lent most h k = omega (arith, h.1, length-take count (drop start pool))
+stretch_short pool None lent most h k = lit< tt
+stretch_short pool (Some s) lent most h k = omega (arith, h.1, length-take s.count (drop s.start pool))
 
 few_in_table : (s : Span) (n lent : ℕ) → InTable s n lent → FewParts (parts_of s)
-few_in_table Absent n lent h = tt
-few_in_table (Stretch start count) n lent h = omega (arith, h.2)
+few_in_table None n lent h = tt
+few_in_table (Some s) n lent h = omega (arith, h.2)
 
 module _ (table : List ℕ) (P : Pools) (words : InWords P) where
   records_in_lem : AllRecords (record_with table P)
@@ -164,8 +161,8 @@ module _ (table : List ℕ) (P : Pools) (words : InWords P) where
   records_in_lem n r e = go (record_at table (lent_of P) n) refl e
     where
       go : (j : Judged) → record_at table (lent_of P) n ≡ j → seen P j ≡ some r → InRecord r
-      go Bad a e = absurd (never (cc))
-      go (Good g) a e =
+      go None a e = absurd (never (cc))
+      go (Some g) a e =
           let same : lists_of P g ≡ r = cc in
           let w = within table (lent_of P) n g a in
           rw (← same)

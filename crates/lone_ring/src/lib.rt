@@ -1,76 +1,58 @@
-// The polygon of a record that has an xy list and no other, of which no z, m, t or tm is read: the common part.
+// The polygon of a record that has an xy list and no other, of which no z, m, t or tm is read: the common part. It has a loop of
+// its own, which asks nothing of the other lists at any pair.
 #![tactic(auto)]
 
-ghost use Rattle.std.specs.Prelude.{◌≡◌, false, [], ◌≤◌, length};
-ghost use Rattle.laws.specs.Script.{out, run};
-ghost use Rattle.event_log.specs.Log.{events};
+ghost use Rattle.std.specs.Prelude.{◌≡◌, false, []};
+ghost use Rattle.event_log.specs.Says.{Says, of_events};
 ghost use Rattle.lines.specs.Lines.{flat_s, stretches_s};
 ghost use Rattle.lone_ring.specs.Lone.{lone_s, lone_coords};
 
-use kinds::answer::Answer;
-use kinds::event::Event;
-use kinds::{geometry_type, refusal};
+mod ring;
 
-fn read_lone_pairs(log: &mut [u8], feature: u32, count: usize, xy: &[u64]) -> Answer
-    requires { length xy.now ≤ 131072 }
-    ensures { run (events feature) (lone_s xy.now 0) log.old count ≡ out result.number result.count log.new }
+use coords::Head;
+use event_log::EventLog;
+use kinds::event::Event;
+use kinds::geometry_type::GeometryType;
+use kinds::refusal::Refusal;
+pub use ring::Ring;
+
+fn read_lone_pairs(ring: Ring, log: &mut EventLog) -> Result<(), Refusal>
+    ensures { Says of_events (lone_s ring.entry.xy.now 0) log.old log.new result }
 {
-    let mut said = count;
-    let mut i: usize = 0;
-    let mut n: u32 = 0;
-    while i < xy.len() {
-        if xy.len() - i < 2 {
-            return Answer {
-                number: refusal::PAST_LIST,
-                count: said,
-            };
-        }
-        let r = event_log::say(log, feature, said, Event::xy(xy[i], xy[i + 1], n));
-        if r.number != refusal::DONE {
-            return r;
-        }
-        said = r.count;
-        i += 2;
-        n += 1;
+    let xy = ring.xy;
+    for i in 0..xy.len() / 2 {
+        log.say(Event::xy(xy[2 * i], xy[2 * i + 1], i as u32))?;
     }
-    Answer {
-        number: refusal::DONE,
-        count: said,
+    if xy.len() % 2 != 0 {
+        return Err(Refusal::PastList);
     }
+    Ok(())
 }
 
 // The whole list as one line.
-fn read_lone_line(log: &mut [u8], feature: u32, count: usize, xy: &[u64]) -> Answer
-    requires { length xy.now ≤ 131072 }
-    ensures { run (events feature) (flat_s (lone_coords xy.now) 2 false 0) log.old count ≡ out result.number result.count log.new }
+fn read_lone_line(ring: Ring, log: &mut EventLog) -> Result<(), Refusal>
+    ensures { Says of_events (flat_s (lone_coords ring.entry.xy.now) 2 false 0) log.old log.new result }
 {
-    let kind = geometry_type::LINE_STRING;
-    let size = (xy.len() / 2) as u32;
-    let b = event_log::say(log, feature, count, Event::begin(kind, false, size, 0));
-    if b.number != refusal::DONE {
-        return b;
-    }
-    let r = read_lone_pairs(log, feature, b.count, xy);
-    if r.number != refusal::DONE {
-        return r;
-    }
-    event_log::say(log, feature, r.count, Event::end(kind, false, 0))
+    let head = Head {
+        kind: GeometryType::LineString,
+        tagged: false,
+        idx: 0,
+    };
+    log.say(head.begin((ring.xy.len() / 2) as u32))?;
+    read_lone_pairs(ring, log)?;
+    log.say(head.end())
 }
 
 // An untagged polygon whose one ring is the whole list.
-pub fn read_lone_ring(log: &mut [u8], feature: u32, count: usize, xy: &[u64], idx: u32) -> Answer
-    requires { length xy.now ≤ 131072 }
-    ensures { run (events feature) (stretches_s 3 false idx (lone_coords xy.now) [])
-        log.old count ≡ out result.number result.count log.new }
+pub fn read_lone_ring(ring: Ring, idx: u32, log: &mut EventLog) -> Result<(), Refusal>
+    ensures { Says of_events (stretches_s 3 false idx (lone_coords ring.entry.xy.now) []) log.old log.new result }
 {
-    let kind = geometry_type::POLYGON;
-    let b = event_log::say(log, feature, count, Event::begin(kind, false, 1, idx));
-    if b.number != refusal::DONE {
-        return b;
-    }
-    let r = read_lone_line(log, feature, b.count, xy);
-    if r.number != refusal::DONE {
-        return r;
-    }
-    event_log::say(log, feature, r.count, Event::end(kind, false, idx))
+    let head = Head {
+        kind: GeometryType::Polygon,
+        tagged: false,
+        idx,
+    };
+    log.say(head.begin(1))?;
+    read_lone_line(ring, log)?;
+    log.say(head.end())
 }

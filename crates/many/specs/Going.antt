@@ -1,45 +1,46 @@
 -- A call amid its records, which are to be of one feature: what is left to do, from the state and the memory as they are, comes to what the call comes to.
-use Rattle.std.specs.Prelude.{◌≡◌, refl, Bool, true, false, cond, List, ℕ, suc, ◌+◌, ◌-◌, ◌*◌, ◌/◌, ◌%◌, ◌≤◌, ◌<◌, eqb, length, drop}
-use Rattle.std.proofs.Common.{sym, subst, ◌∙◌, arith, length-drop, length-take, take_all, eqb-true}
+use Rattle.std.specs.Prelude.{Result, ◌≡◌, refl, Bool, true, false, cond, List, ℕ, suc, ◌+◌, ◌-◌, ◌*◌, ◌/◌, ◌%◌, ◌≤◌, ◌<◌, eqb, length, drop, Some}
+use Rattle.std.proofs.Common.{Ok, Err, sym, subst, ◌∙◌, arith, length-drop, length-take, take_all, eqb-true}
 use Rattle.std.proofs.Math.Path.{ap}
 use Rattle.std.proofs.lemmas.Bool.{eqb-false}
 use Rattle.kinds.specs.Event.{Malformed}
-use Rattle.kinds.specs.declared.geometry.Lent.{Lent}
+use Rattle.kinds.specs.Lanes.{Lent}
+use Rattle.kinds.specs.Refusal.{number_of, refused}
+use Rattle.kinds.specs.declared.refusal.Refusal.{Refusal}
 use Rattle.store.specs.Lists.{lent_of}
 use Rattle.event_log.specs.Log.{heard, rest_number, record_of, records_in}
 use Rattle.event_log.specs.LogLaws.{not_whole}
 use Rattle.store.specs.Records.{records_lent}
-use Rattle.runs.specs.declared.took.Took.{Took}
-use Rattle.pending.specs.declared.words.Pending.{Pending}
+use Rattle.runs.specs.Events.{Took, Progress, took, progress, events_from, events_call, none_left, went_on, stopped}
+use Rattle.pending.specs.Words.{Pending}
 use Rattle.writing.specs.declared.state.State.{State}
-use Rattle.writing.specs.declared.state.Wrote.{Wrote}
-use Rattle.writing.specs.declared.feature.Feature.TheVariants.{Numbered}
-use Rattle.writing.specs.State.{Mem, with_feature, with_pending, Outcome, outcome, wrote}
+use Rattle.writing.specs.State.{wrote_of, Wrote, Mem, memory, with_feature, with_pending, Outcome, outcome, wrote}
+use Rattle.pools.specs.declared.pools_mut.PoolsMut.{PoolsMut}
+use Rattle.pools.specs.PoolsMut.{pools_now}
 use Rattle.writing.specs.Calls.{is_ready, event_call}
 use Rattle.writing.specs.Apart.{is-ready, was_ready}
 use Rattle.writing.specs.Ends.{malformed}
-use Rattle.runs.specs.Events.{Progress, took, progress, events_from, events_call, none_left, went_on, stopped}
 use Rattle.runs.specs.Plain.{blocked_by, blocked_refuses, amid}
 use Rattle.writing.specs.Ready.{same-ready, event-ready}
 use Rattle.writing.specs.Refused.{event_unchanged}
-use Rattle.runs.specs.Run.{Values, mem_with, Run, BlockedAt}
+use Rattle.runs.specs.Run.{Values, values_in, mem_with, Beside, Run, BlockedAt}
 
 pub record Going (bytes : List ℕ) (held : ℕ) (s₀ : State) (k₀ : Mem) (ready : Bool) (taken : ℕ) (s : State) (k : Mem) : Type 0 where
-  pub in_hand_lem : s.feature ≡ Numbered held
+  pub in_hand_lem : s.feature ≡ Some held
   pub within : taken ≤ length bytes / 64
   pub table : length k.table ≡ length k₀.table
   pub pools : lent_of k.pools ≡ lent_of k₀.pools
   pub tells : is_ready s (records_lent k.table) (lent_of k.pools) ≡ ready
   pub rest : events_from (records_in bytes - taken) taken bytes s k ≡ events_call s₀ k₀ bytes
 
-pub begun : (bytes : List ℕ) {held : ℕ} (s : State) (k : Mem) {records : ℕ} {pools : Lent} {ready : Bool} → s.feature ≡ Numbered held → records ≡ records_lent k.table → pools ≡ lent_of k.pools → ready ≡ is_ready s records pools → Going bytes held s k ready 0 s k
+pub begun : (bytes : List ℕ) {held : ℕ} (s : State) (k : Mem) {records : ℕ} {pools : Lent} {ready : Bool} → s.feature ≡ Some held → records ≡ records_lent k.table → pools ≡ lent_of k.pools → ready ≡ is_ready s records pools → Going bytes held s k ready 0 s k
 unfolding events_call
 begun bytes s k in_hand_lem records words tells =
     let all : records_in bytes - 0 ≡ records_in bytes = omega arith in
     record { in_hand_lem = in_hand_lem; within = omega arith; table = refl; pools = refl; tells = sym (tells ∙ (λ i. is_ready s (records i) (words i))); rest = ap (λ (n : ℕ). events_from n 0 bytes s k) all }
 
 -- ---- a run of plain events: a state that has the feature in hand is that of the run
-as_amid : (s : State) {held : ℕ} (p : Pending) → s.feature ≡ Numbered held → with_pending s p ≡ amid s held p
+as_amid : (s : State) {held : ℕ} (p : Pending) → s.feature ≡ Some held → with_pending s p ≡ amid s held p
 as_amid s p is = λ i. with_pending (with_feature s (is i)) p
 
 pub at-run : {bytes : List ℕ} {held : ℕ} {s₀ : State} {k₀ : Mem} {ready : Bool} {from : ℕ} {s : State} {table ends : List ℕ} {v : Values} {taken : ℕ} {p : Pending} {v' : Values}
@@ -57,6 +58,13 @@ at-run {bytes} {held} {from} {s} {table} {ends} {v} {taken} {p} {v'} so_far run 
           ∙ so_far.rest;
     }
 
+-- in pools that hold the same ends
+pub after_run : {bytes : List ℕ} {held : ℕ} {s₀ : State} {k₀ : Mem} {ready : Bool} {from : ℕ} {s : State} {table : List ℕ} {pools pools' : PoolsMut} {taken : ℕ} {p : Pending}
+    → Going bytes held s₀ k₀ ready from s (memory table (pools_now pools)) → Beside pools pools' → Run bytes ready held from s.pending (values_in pools) taken p (values_in pools') → Going bytes held s₀ k₀ ready taken (with_pending s p) (memory table (pools_now pools'))
+after_run {bytes} {held} {s₀} {k₀} {ready} {s = s} {table} {pools} {pools'} {taken} {p} so_far beside run =
+    subst (λ (ends : List ℕ). Going bytes held s₀ k₀ ready taken (with_pending s p) (mem_with table ends (values_in pools'))) (sym beside.ends)
+    (at-run {s = s} {table = table} {ends = pools.ends.now} {v = values_in pools} so_far run)
+
 module _ {bytes : List ℕ} {held : ℕ} {s₀ : State} {k₀ : Mem} {ready : Bool} {taken : ℕ} {s : State} {k : Mem} (so_far : Going bytes held s₀ k₀ ready taken s k) where
   -- ---- a record that is left: it is refused, or taken
   module _ (more_left : taken < records_in bytes) {r : Wrote} {k' : Mem} (is : outcome r k' ≡ event_call s k (record_of bytes taken)) where
@@ -69,7 +77,7 @@ module _ {bytes : List ℕ} {held : ℕ} {s₀ : State} {k₀ : Mem} {ready : Bo
         let kept : k' ≡ k = ap (λ (o : Outcome). o.mem) (is ∙ unchanged) in
         ap (progress (took r.number taken s)) kept ∙ stopped (records_in bytes - (taken + 1)) taken bytes s k is no_more ∙ all
 
-    pub at-taken : r.number ≡ 0 → taken + 1 ≤ length bytes / 64 → length k'.table ≡ length k.table → lent_of k'.pools ≡ lent_of k.pools → r.state.feature ≡ Numbered held → Going bytes held s₀ k₀ ready (taken + 1) r.state k'
+    pub at-taken : r.number ≡ 0 → taken + 1 ≤ length bytes / 64 → length k'.table ≡ length k.table → lent_of k'.pools ≡ lent_of k.pools → r.state.feature ≡ Some held → Going bytes held s₀ k₀ ready (taken + 1) r.state k'
     at-taken ok within table pools in_hand_lem =
         let accepted = ap (λ (o : Outcome). o.wrote.number) (sym is) ∙ ok in
         let then_ready = event-ready s k (record_of bytes taken) accepted in
@@ -82,6 +90,20 @@ module _ {bytes : List ℕ} {held : ℕ} {s₀ : State} {k₀ : Mem} {ready : Bo
               ∙ sym (was_ready s k (record_of bytes taken) accepted) ∙ so_far.tells;
           rest = went_on (records_in bytes - (taken + 1)) taken bytes s k is ok ∙ all;
         }
+
+  -- as the code has it: an error, or the state after
+  module _ (more_left : taken < records_in bytes) {answer : Result State Refusal} {k' : Mem} (is : outcome (wrote_of s answer) k' ≡ event_call s k (record_of bytes taken)) where
+    number_is : {a : Result State Refusal} → answer ≡ a → (wrote_of s answer).number ≡ (wrote_of s a).number
+    number_is e = ap (λ (b : Result State Refusal). (wrote_of s b).number) e
+
+    pub at_err : {r : Refusal} → answer ≡ Err r → progress (took (number_of r) taken s) k' ≡ events_call s₀ k₀ bytes
+    at_err {r} e = ap (λ (n : ℕ). progress (took n taken s) k') (sym (number_is e)) ∙ at_refused more_left is (λ h. refused r (sym (number_is e) ∙ h))
+
+    pub at-ok : {after : State} → answer ≡ Ok after → taken + 1 ≤ length bytes / 64 → length k'.table ≡ length k.table → lent_of k'.pools ≡ lent_of k.pools → after.feature ≡ Some held → Going bytes held s₀ k₀ ready (taken + 1) after k'
+    at-ok {after} e within table pools in_hand_lem =
+        let state_is : (wrote_of s answer).state ≡ after = ap (λ (b : Result State Refusal). (wrote_of s b).state) e in
+        subst (λ (t : State). Going bytes held s₀ k₀ ready (taken + 1) t k') state_is
+        (at-taken more_left is (number_is e) within table pools (ap (λ (t : State). t.feature) state_is ∙ in_hand_lem))
 
   -- ---- it is no event
   pub at-malformed : taken < records_in bytes → heard (record_of bytes taken) ≡ Malformed → progress (took 11 taken s) k ≡ events_call s₀ k₀ bytes

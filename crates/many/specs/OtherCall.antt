@@ -1,8 +1,10 @@
 -- What a begin that sets a type, or an end, comes to: the table and the ends are changed, if it is accepted.
-use Rattle.std.specs.Prelude.{◌≡◌, refl, Bool, true, false, cond, List, ℕ, ◌<◌, eqb, length}
-use Rattle.std.proofs.Common.{sym, ◌∙◌}
+use Rattle.std.specs.Prelude.{Result, ◌≡◌, refl, Bool, true, false, cond, List, ℕ, ◌<◌, eqb, length}
+use Rattle.std.proofs.Common.{Ok, Err, sym, ◌∙◌}
 use Rattle.std.proofs.Math.Path.{ap}
 use Rattle.std.proofs.lemmas.List.Edits.{sets}
+use Rattle.kinds.specs.Refusal.{answer_of}
+use Rattle.kinds.specs.declared.refusal.Refusal.{Refusal}
 use Rattle.kinds.specs.Event.{WellFormed}
 use Rattle.kinds.specs.Lanes.{endsL}
 use Rattle.kinds.specs.declared.event.Event.{Event}
@@ -10,11 +12,10 @@ use Rattle.store.specs.Lists.{pools_of, lent_of}
 use Rattle.event_log.specs.Log.{heard, feature_in}
 use Rattle.store.specs.Records.{records_lent}
 use Rattle.asking.specs.declared.ask.Ask.{Ask}
-use Rattle.asking.specs.declared.set_type.Typed.{Typed}
+use Rattle.asking.specs.SetType.{Typed}
 use Rattle.writing.specs.declared.state.State.{State}
-use Rattle.writing.specs.declared.state.Wrote.{Wrote}
+use Rattle.writing.specs.State.{wrote_of, Wrote, mem_of, outcome, settled}
 use Rattle.pending.specs.Words.{used}
-use Rattle.writing.specs.State.{mem_of, outcome, settled}
 use Rattle.asking.specs.Ask.{end_if, ask, ask_of, OnlyEnds, other_adds}
 use Rattle.writing.specs.Calls.{gives, is_ready, table_after, mem_after, event_with, event_call}
 use Rattle.writing.specs.Other.{decide_other, other_decides}
@@ -50,7 +51,7 @@ module _ (s : State) (n : ℕ) (ready : Bool) (e : Event) (table xy ends z m t t
       ends_is
       ∙ ap (λ (b : Ask). event_with s n b e (mem_of table xy ends z m t tm)) (sym as_ends)
 
-  pub other_call : (bytes : List ℕ) → heard bytes ≡ WellFormed e → e.kind < 64 → n ≡ feature_in bytes
+  other_call : (bytes : List ℕ) → heard bytes ≡ WellFormed e → e.kind < 64 → n ≡ feature_in bytes
       → r ≡ decide_other s n (ask_of s.typing e) ready (records_lent table) (length ends)
       → table' ≡ cond (eqb r.number 0) (table_after s (ask_of s.typing e) table) table
       → ends' ≡ cond (eqb r.number 0) (sets ends (used s.pending.ends) (gives s (ask_of s.typing e).added e endsL)) ends
@@ -59,3 +60,13 @@ module _ (s : State) (n : ℕ) (ready : Bool) (e : Event) (table xy ends z m t t
       well_formed_lem s (mem_of table xy ends z m t tm) e bytes (sym is) refl
       (asked (ask_of s.typing e) (other_adds s.typing e below) answers table_is ends_is
       ∙ ap (λ (k : ℕ). event_with s k (ask_of s.typing e) e (mem_of table xy ends z m t tm)) number)
+
+-- from the answer as the code has it
+pub other_answered : (s : State) (n : ℕ) (ready : Bool) (e : Event) (table xy ends z m t tm : List ℕ) (answer : Result State Refusal) {table' ends' : List ℕ} → is_ready s (records_lent table) (lent_of (pools_of xy ends z m t tm)) ≡ ready
+    → (bytes : List ℕ) → heard bytes ≡ WellFormed e → e.kind < 64 → n ≡ feature_in bytes
+    → wrote_of s answer ≡ decide_other s n (ask_of s.typing e) ready (records_lent table) (length ends)
+    → table' ≡ cond (eqb (answer_of answer) 0) (table_after s (ask_of s.typing e) table) table
+    → ends' ≡ cond (eqb (answer_of answer) 0) (sets ends (used s.pending.ends) (gives s (ask_of s.typing e).added e endsL)) ends
+    → outcome (wrote_of s answer) (mem_of table' xy ends' z m t tm) ≡ event_call s (mem_of table xy ends z m t tm) bytes
+other_answered s n ready e table xy ends z m t tm (Ok after) tells = other_call s n ready e table xy ends z m t tm tells
+other_answered s n ready e table xy ends z m t tm (Err refusal) tells = other_call s n ready e table xy ends z m t tm tells

@@ -1,79 +1,48 @@
 // Events that are to be of one feature, which is in hand: runs of plain events, and between them the others one by one.
-ghost use Rattle.std.specs.Prelude.{◌≡◌};
-ghost use Rattle.writing.specs.declared.feature.Feature.TheVariants.{Numbered};
-ghost use Rattle.writing.specs.State.{mem_of};
-ghost use Rattle.runs.specs.Events.{progress, events_call};
+ghost use Rattle.std.specs.Prelude.{◌≡◌, Some};
+ghost use Rattle.writing.specs.State.{memory};
+ghost use Rattle.pools.specs.PoolsMut.{pools_now, SamePools};
+ghost use Rattle.runs.specs.Events.{progress, took_of, events_call};
 
-use event_log::rest_number;
+use event_log::no_rest;
 use frames::take_other;
-use kinds::geometry::Lent;
-use kinds::refusal;
-use runs::{Stop, Took, blocked_number, take_plain};
+use kinds::refusal::Refusal;
+use pools::PoolsMut;
+use runs::{Stop, Took, take_plain, why_blocked};
 use writing::ready::is_ready;
 use writing::state::State;
 
-pub fn take_all(
-    s: State,
-    held: u32,
-    bytes: &[u8],
-    table: &mut [u8],
-    xy: &mut [u64],
-    ends: &mut [u32],
-    z: &mut [u64],
-    m: &mut [u64],
-    t: &mut [u64],
-    tm: &mut [u64],
-) -> Took
-    requires { s.feature ≡ Numbered held }
-    ensures { let before = mem_of table.old xy.old ends.old z.old m.old t.old tm.old in
-        let after = mem_of table.new xy.new ends.new z.new m.new t.new tm.new in
-        progress result after ≡ events_call s before bytes.now }
+pub fn take_all(s: State, held: u32, bytes: &[u8], table: &mut [u8], pools: &mut PoolsMut) -> Took
+    requires { s.feature ≡ Some held }
+    ensures same { SamePools pools.old pools.new }
+    ensures took { let before = memory table.old (pools_now pools.old) in
+        let after = memory table.new (pools_now pools.new) in
+        progress (took_of result) after ≡ events_call s before bytes.now }
 {
-    let pools = Lent::new(xy.len(), ends.len(), z.len(), m.len(), t.len(), tm.len());
-    let records = store::records_lent(table);
-    let ready = is_ready(s, records, pools);
+    let ready = is_ready(s, store::records_lent(table), pools.lent());
     let mut state = s;
     let mut taken = 0;
     loop {
-        let run = take_plain(bytes, taken, ready, held, state.pending, xy, z, m, t, tm);
-        let pending = run.pending;
-        state.pending = pending;
+        let run = take_plain(bytes, taken, ready, held, state.pending, pools);
+        state.pending = run.pending;
         taken = run.taken;
-        let stop = run.stop;
-        match stop {
-            Stop::End => {
-                return Took {
-                    number: rest_number(bytes.len()),
-                    taken,
-                    state,
-                };
-            }
-            Stop::Blocked { own } => {
-                return Took {
-                    number: blocked_number(state.waiting, own),
-                    taken,
-                    state,
-                };
-            }
-            Stop::Malformed => {
-                return Took {
-                    number: refusal::MALFORMED,
-                    taken,
-                    state,
-                };
-            }
-            Stop::Other(e) => {
-                let wrote = take_other(state, held, ready, e, table, ends);
-                if wrote.number != refusal::DONE {
-                    return Took {
-                        number: wrote.number,
-                        taken,
-                        state,
-                    };
+        let answer = match run.stop {
+            Stop::End => no_rest(bytes.len()),
+            Stop::Blocked { own } => Err(why_blocked(state.waiting, own)),
+            Stop::Malformed => Err(Refusal::Malformed),
+            Stop::Other(e) => match take_other(state, held, ready, e, table, pools.ends) {
+                Ok(after) => {
+                    state = after;
+                    taken += 1;
+                    continue;
                 }
-                state = wrote.state;
-                taken += 1;
-            }
-        }
+                Err(refusal) => Err(refusal),
+            },
+        };
+        return Took {
+            taken,
+            state,
+            answer,
+        };
     }
 }

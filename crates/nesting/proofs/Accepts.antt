@@ -3,7 +3,9 @@ use Rattle.std.specs.Prelude.{◌≡◌, refl, Bool, true, false, cond, ◌&&◌
 use Rattle.std.proofs.Common.{ap, ◌∙◌, arith, eq-eqb, lt-ltb}
 use Rattle.planar.specs.Geometry.{Geometry}
 use Rattle.planar.specs.Any.{any}
-use Rattle.nesting.specs.Events.{GeometryType, Collection, Event, begin, end, pair, each, events_of}
+use Rattle.nesting.specs.declared.geometry_type.GeometryType.{GeometryType}
+use Rattle.nesting.specs.declared.geometry_type.GeometryType.TheVariants.{Collection}
+use Rattle.nesting.specs.Events.{Event, begin, end, pair, each, events_of}
 use Rattle.planar.specs.Fits.{Each}
 use Rattle.nesting.specs.Rules.{Rules, limit64, MayHold, GeometryRule}
 use Rattle.nesting.specs.Machine.{Frame, frame, State, within, start, closed, Answer, taken, number, same, of_pairs, count, allowed, Place, here, place, one_more, begin_at, step, and_then, run}

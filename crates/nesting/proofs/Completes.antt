@@ -3,7 +3,9 @@ use Rattle.std.specs.Prelude.{◌≡◌, refl, Bool, true, false, cond, List, []
 use Rattle.std.proofs.Common.{ap, ◌∙◌, append-nil, arith, eqb-true, ltb-true}
 use Rattle.planar.specs.Geometry.{Geometry}
 use Rattle.planar.specs.Any.{Any}
-use Rattle.nesting.specs.Events.{GeometryType, Collection, Event, begin, end, pair, strange, each, events_of}
+use Rattle.nesting.specs.declared.geometry_type.GeometryType.{GeometryType}
+use Rattle.nesting.specs.declared.geometry_type.GeometryType.TheVariants.{Collection}
+use Rattle.nesting.specs.Events.{Event, begin, end, pair, strange, each, events_of}
 use Rattle.planar.specs.Fits.{Each}
 use Rattle.nesting.specs.Rules.{Rules, limit64, GeometryRule}
 use Rattle.nesting.specs.Machine.{Frame, frame, State, within, start, closed, Answer, taken, refused, number, same, of_pairs, count, allowed, Place, here, too_deep, nowhere, place, one_more, begin_fits, end_fits, pair_fits, begin_at, end_at, pair_at, step, and_then, run}

@@ -1,7 +1,8 @@
 -- An event is taken exactly where a geometry that keeps the rules goes on so.
 use Rattle.std.specs.Prelude.{◌≡◌, refl, List, [], ◌∷◌, ◌++◌, ◌↔◌, Bool, true, false, cond, ℕ, suc, length}
 use Rattle.std.proofs.Common.{sym, ap, ◌∙◌, arith}
-use Rattle.nesting.specs.Events.{GeometryType, Event, begin, end, pair, strange}
+use Rattle.nesting.specs.declared.geometry_type.GeometryType.{GeometryType}
+use Rattle.nesting.specs.Events.{Event, begin, end, pair, strange}
 use Rattle.nesting.specs.Rules.{Rules}
 use Rattle.nesting.specs.Machine.{Frame, Place, here, too_deep, nowhere, place, begin_fits, end_fits, pair_fits, begin_at, end_at, State, within, start, closed, Answer, taken, refused, step, and_then, run}
 use Rattle.nesting.proofs.Accepts.{accepts}

@@ -6,7 +6,8 @@ use Rattle.std.proofs.lemmas.Bool.{lt-leb, not-true}
 use Rattle.laws.specs.Every.{never, both, other}
 use Rattle.kinds.specs.Event.{begin_e, end_e, xy_e, well_formed, keeps_uses, uses_of, bit_set, uses_tagged, uses_size, uses_pair, uses_present}
 use Rattle.kinds.specs.declared.event.Uses.{Uses}
-use Rattle.nesting.specs.Events.{Point, LineString, Polygon, MultiPoint, MultiLineString, MultiPolygon, Collection, Event, begin, end, pair, strange, events_of}
+use Rattle.nesting.specs.declared.geometry_type.GeometryType.TheVariants.{Point, LineString, Polygon, MultiPoint, MultiLineString, MultiPolygon, Collection}
+use Rattle.nesting.specs.Events.{Event, begin, end, pair, strange, events_of}
 use Rattle.planar.specs.Fits.{Each}
 use Rattle.nesting.specs.Rules.{Rules}
 use Rattle.nesting.specs.Machine.{State, within, start, closed, Answer, taken, refused, number, numbered, step, and_then, run}

@@ -6,4 +6,4 @@ pub mod Completes
 pub mod Exactly
 pub mod FlatLaws
 pub mod Sound
-pub mod Taking
+pub mod FlatReads

@@ -7,7 +7,9 @@ use Rattle.std.proofs.lemmas.List.{length-replicate}
 use Rattle.laws.specs.Every.{never}
 use Rattle.planar.specs.Geometry.{Coord, point, line_string, polygon, multi_point, multi_line_string, multi_polygon}
 use Rattle.planar.specs.Any.{Any, any, collect}
-use Rattle.nesting.specs.Events.{GeometryType, Point, LineString, Polygon, MultiPoint, MultiLineString, MultiPolygon, Collection, Event, begin, end, pair, each, group}
+use Rattle.nesting.specs.declared.geometry_type.GeometryType.{GeometryType}
+use Rattle.nesting.specs.declared.geometry_type.GeometryType.TheVariants.{Point, LineString, Polygon, MultiPoint, MultiLineString, MultiPolygon, Collection}
+use Rattle.nesting.specs.Events.{Event, begin, end, pair, each, group}
 use Rattle.planar.specs.Fits.{Each}
 use Rattle.nesting.specs.Rules.{Rules, limit64, PairRule, MayHold, Clear, LevelRule}
 use Rattle.nesting.specs.Machine.{Place, here, too_deep, nowhere, exceeds, member, place, count, of_pairs}

@@ -5,7 +5,9 @@ use Rattle.std.proofs.Math.Path.{subst⁻¹}
 use Rattle.std.proofs.lemmas.List.{length-map}
 use Rattle.planar.specs.Geometry.{Simple, point, line_string, polygon, multi_point, multi_line_string, multi_polygon, simple, collection, Geometry}
 use Rattle.planar.specs.Any.{Any, any}
-use Rattle.nesting.specs.Events.{GeometryType, Point, LineString, Polygon, MultiPoint, MultiLineString, MultiPolygon, Collection, Event, begin, end, pair, each, simple_of}
+use Rattle.nesting.specs.declared.geometry_type.GeometryType.{GeometryType}
+use Rattle.nesting.specs.declared.geometry_type.GeometryType.TheVariants.{Point, LineString, Polygon, MultiPoint, MultiLineString, MultiPolygon, Collection}
+use Rattle.nesting.specs.Events.{Event, begin, end, pair, each, simple_of}
 use Rattle.planar.specs.Fits.{Each}
 use Rattle.nesting.specs.Rules.{Rules, limit64, MayHold, Clear, SimpleRule, GeometryRule}
 use Rattle.nesting.specs.Machine.{here, too_deep, parts, place, count, of_pairs}

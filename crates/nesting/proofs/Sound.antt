@@ -1,7 +1,9 @@
 -- What every state that is reached keeps, for code that holds it in words: each number is a u32, and an open geometry's idx need not be stored.
 use Rattle.std.specs.Prelude.{◌≡◌, refl, Bool, true, false, cond, List, [], ◌∷◌, ℕ, suc, ◌<◌, ◌≤◌, eqb, ltb, length}
 use Rattle.std.proofs.Common.{arith, eqb-true, ltb-true}
-use Rattle.nesting.specs.Events.{GeometryType, Point, LineString, Polygon, MultiPoint, MultiLineString, MultiPolygon, Collection, Event, begin, end, pair, strange}
+use Rattle.nesting.specs.declared.geometry_type.GeometryType.{GeometryType}
+use Rattle.nesting.specs.declared.geometry_type.GeometryType.TheVariants.{Point, LineString, Polygon, MultiPoint, MultiLineString, MultiPolygon, Collection}
+use Rattle.nesting.specs.Events.{Event, begin, end, pair, strange}
 use Rattle.nesting.specs.Rules.{Rules, limit, limit64, MayHold}
 use Rattle.nesting.specs.Machine.{Frame, frame, State, within, start, Answer, taken, refused, same, of_pairs, count, allowed, Place, here, too_deep, nowhere, place, one_more, begin_fits, end_fits, pair_fits, begin_at, end_at, pair_at, step, and_then, run}
 use Rattle.nesting.specs.Tests.{five, four}

@@ -1,15 +1,8 @@
 -- The events that tell of a geometry: begins, ends and pairs, with true sizes and indices from zero.
 use Rattle.std.specs.Prelude.{Bool, true, false, List, [], ◌∷◌, ℕ, zero, suc, ◌+◌, length}
+use Rattle.nesting.specs.declared.geometry_type.GeometryType.{GeometryType}
+use Rattle.nesting.specs.declared.geometry_type.GeometryType.TheVariants.{Point, LineString, Polygon, MultiPoint, MultiLineString, MultiPolygon, Collection}
 use Rattle.planar.specs.Geometry.{Coord, Line, Rings, Simple, point, line_string, polygon, multi_point, multi_line_string, multi_polygon, simple, collection, Geometry}
-
-pub data GeometryType : Type 0 where
-  Point : GeometryType
-  LineString : GeometryType
-  Polygon : GeometryType
-  MultiPoint : GeometryType
-  MultiLineString : GeometryType
-  MultiPolygon : GeometryType
-  Collection : GeometryType
 
 -- A begin has type, tag, size and idx, an end type, tag and idx, a pair x, y and idx. No geometry of these types has any other event: it is
 -- `strange`, and has its kind.

@@ -4,7 +4,8 @@ use Rattle.std.proofs.Common.{sym, ap, arith}
 use Rattle.laws.specs.Every.{never}
 use Rattle.kinds.specs.Event.{begin_e, end_e, xy_e}
 use Rattle.planar.specs.Geometry.{Coord, point, polygon, multi_polygon, simple, collection, Geometry}
-use Rattle.nesting.specs.Events.{LineString, Polygon, MultiPoint, MultiPolygon, Collection, Event, begin, end, pair, events_of}
+use Rattle.nesting.specs.declared.geometry_type.GeometryType.TheVariants.{LineString, Polygon, MultiPoint, MultiPolygon, Collection}
+use Rattle.nesting.specs.Events.{Event, begin, end, pair, events_of}
 use Rattle.nesting.specs.Rules.{Rules, limit, SimpleRule, GeometryRule}
 use Rattle.nesting.specs.Machine.{frame, within, outside, start, closed, Answer, taken, refused, run}
 use Rattle.nesting.specs.Flat.{read}

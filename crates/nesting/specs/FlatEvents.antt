@@ -7,7 +7,9 @@ use Rattle.kinds.specs.Event.{begin_e, end_e}
 use Rattle.geometries.specs.Events as Told
 use Rattle.planar.specs.Geometry.{point, line_string, polygon, multi_point, multi_line_string, multi_polygon, simple, collection, Geometry}
 use Rattle.planar.specs.Within.{coord_in, line_in, rings_in, simple_in, geometry_in, plain, planar_events}
-use Rattle.nesting.specs.Events.{GeometryType, LineString, Polygon, MultiPoint, MultiLineString, MultiPolygon, Collection, Event, end, Tells, each, group, coord_of, line_of, rings_of, simple_of, geometry_of, events_of}
+use Rattle.nesting.specs.declared.geometry_type.GeometryType.{GeometryType}
+use Rattle.nesting.specs.declared.geometry_type.GeometryType.TheVariants.{LineString, Polygon, MultiPoint, MultiLineString, MultiPolygon, Collection}
+use Rattle.nesting.specs.Events.{Event, end, Tells, each, group, coord_of, line_of, rings_of, simple_of, geometry_of, events_of}
 use Rattle.nesting.specs.Machine.{number}
 use Rattle.nesting.specs.Flat.{flat}
 

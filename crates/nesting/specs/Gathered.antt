@@ -4,7 +4,9 @@ use Rattle.std.proofs.Common.{sym, ap, ◌∙◌}
 use Rattle.std.proofs.lemmas.List.{length-map}
 use Rattle.planar.specs.Geometry.{Geometry}
 use Rattle.planar.specs.Any.{Any, collect, ByShape, collect-is}
-use Rattle.nesting.specs.Events.{GeometryType, Collection, Event, begin, end, Tells, each, group, geometry_of}
+use Rattle.nesting.specs.declared.geometry_type.GeometryType.{GeometryType}
+use Rattle.nesting.specs.declared.geometry_type.GeometryType.TheVariants.{Collection}
+use Rattle.nesting.specs.Events.{Event, begin, end, Tells, each, group, geometry_of}
 use Rattle.planar.specs.Fits.{Each}
 use Rattle.nesting.specs.Rules.{Rules, MayHold, Clear, LevelRule, GeometryRule}
 use Rattle.nesting.specs.Inside.{any_of, Keeps}

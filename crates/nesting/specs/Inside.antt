@@ -2,7 +2,9 @@
 use Rattle.std.specs.Prelude.{Bool, List, [], ◌∷◌, ℕ, suc, ◌+◌, ◌≡◌, length}
 use Rattle.planar.specs.Geometry.{Coord, Line, Rings}
 use Rattle.planar.specs.Any.{Any}
-use Rattle.nesting.specs.Events.{GeometryType, Point, LineString, Polygon, MultiPoint, MultiLineString, MultiPolygon, Collection, Event, end, Tells, each, coord_of, line_of, rings_of, geometry_of}
+use Rattle.nesting.specs.declared.geometry_type.GeometryType.{GeometryType}
+use Rattle.nesting.specs.declared.geometry_type.GeometryType.TheVariants.{Point, LineString, Polygon, MultiPoint, MultiLineString, MultiPolygon, Collection}
+use Rattle.nesting.specs.Events.{Event, end, Tells, each, coord_of, line_of, rings_of, geometry_of}
 use Rattle.planar.specs.Fits.{Each}
 use Rattle.nesting.specs.Rules.{Rules, PairRule, LineRule, RingsRule, GeometryRule}
 use Rattle.nesting.specs.Machine.{Frame, State, within}

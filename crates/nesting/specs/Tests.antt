@@ -2,7 +2,8 @@
 use Rattle.std.specs.Prelude.{◌≡◌, refl, Bool, true, false, ◌&&◌, ℕ, suc, eqb, leb}
 use Rattle.std.proofs.Common.{sym, ap, ◌∙◌, eqb-true, leb-true, le-leb}
 use Rattle.laws.specs.Every.{never, both}
-use Rattle.nesting.specs.Events.{GeometryType, Point, LineString, Polygon, MultiPoint, MultiLineString, MultiPolygon, Collection}
+use Rattle.nesting.specs.declared.geometry_type.GeometryType.{GeometryType}
+use Rattle.nesting.specs.declared.geometry_type.GeometryType.TheVariants.{Point, LineString, Polygon, MultiPoint, MultiLineString, MultiPolygon, Collection}
 use Rattle.nesting.specs.Rules.{Rules, Clear}
 use Rattle.nesting.specs.Machine.{number, numbered, same, exceeds}
 
@@ -25,7 +26,7 @@ pub same_self : (a : Bool) → same a a ≡ true
 same_self true = refl
 same_self false = refl
 
-numbered-number : (t : GeometryType) → numbered (number t) ≡ t
+pub numbered-number : (t : GeometryType) → numbered (number t) ≡ t
 numbered-number Point = refl
 numbered-number LineString = refl
 numbered-number Polygon = refl

@@ -2,5 +2,9 @@
 #![tactic(auto)]
 
 mod frame;
+mod geometry_type;
+mod rules;
 
-pub use frame::{Frame, Rules, opens};
+pub use frame::Frame;
+pub use geometry_type::GeometryType;
+pub use rules::Rules;

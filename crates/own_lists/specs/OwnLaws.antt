@@ -1,99 +1,72 @@
 -- Laws of a record's own lists.
-use Rattle.std.specs.Prelude.{◌≡◌, refl, Bool, true, false, ◌&&◌, List, ℕ, ◌+◌, ◌-◌, ◌≤◌, ◌<◌, length, take, drop}
-use Rattle.std.proofs.Common.{sym, subst, ◌∙◌, arith, length-take}
-use Rattle.std.proofs.Math.Path.{ap}
-use Rattle.kinds.specs.Geometry.{start_of, count_of}
-use Rattle.kinds.specs.declared.flags.Flags.{Flags}
-use Rattle.kinds.specs.declared.geometry.Geometry.{Geometry}
-use Rattle.kinds.specs.declared.geometry.Span.{Span}
-use Rattle.kinds.specs.declared.geometry.Span.TheVariants.{Absent, Stretch}
-use Rattle.store.specs.Lists.{Pools, list_of, lists_of}
+use Rattle.std.specs.Borrow.{Bor}
+use Rattle.std.specs.Option.{unwrap_or}
+use Rattle.std.specs.Prelude.{◌≡◌, refl, Option as OptionR, Some, None, Bool, true, false, List, [], ℕ, ◌+◌, ◌≤◌, length, drop}
+use Rattle.std.proofs.Common.{sym, ap, ◌∙◌, arith, length-take}
+use Rattle.std.proofs.Math.Option.{Option, none, some}
+use Rattle.kinds.specs.Geometry.{Span, start_of, count_of}
+use Rattle.store.specs.Lists.{list_of}
 use Rattle.store.specs.RecordLaws.{InPool}
-use Rattle.own_lists.specs.declared.own.Own.{Own}
-use Rattle.own_lists.specs.declared.own.Own.TheVariants.{Point, Line, Polygon, MultiLineString, Tin, Triangle}
-use Rattle.coords.specs.declared.pairs.Seen.{Seen}
-use Rattle.geometries.specs.Coordinate.{multi}
-use Rattle.coords.specs.Coords.{Coords, seen, coords_of}
-use Rattle.coords.specs.Seen.{when, coords_in}
-use Rattle.lines.specs.Lines.{or_none, flat_s, stretches_s, multi_line_s, triangle_s, tin_s, point_s}
-use Rattle.own_lists.specs.Own.{own_s, Typed, is_there, seen_of, words_of}
+use Rattle.coords.specs.Coords.{seen}
+use Rattle.coords.specs.Views.{list_in}
+use Rattle.lines.specs.Lines.{or_none}
+use Rattle.own_lists.specs.Own.{list_at, seen_list}
 
-pub words-is : (pool : List ℕ) (s : Span) → words_of pool s ≡ or_none (list_of pool s)
-words-is pool Absent = refl
-words-is pool (Stretch start count) = refl
+-- ---- a place in a pool
+bounds : (place : Span) (lent most : ℕ) → InPool place lent most → (start_of place + count_of place ≤ lent) × (count_of place ≤ most)
+bounds None lent most h = (omega arith, omega arith)
+bounds (Some s) lent most h = (h.0, omega (arith, h.1))
 
-pub in_pool_lem : (s : Span) (lent most : ℕ) → InPool s lent most → (start_of s + count_of s ≤ lent) × (count_of s ≤ most)
-in_pool_lem Absent lent most h = (omega arith, omega arith)
-in_pool_lem (Stretch start count) lent most h = (h.0, omega (arith, h.1))
+pub in_pool : (place : Span) (lent most : ℕ) → InPool place lent most → start_of place + count_of place ≤ lent
+in_pool place lent most h = (bounds place lent most h).0
 
-pub words-length : (pool : List ℕ) (s : Span) (lent most : ℕ) → InPool s lent most → length (words_of pool s) ≤ most
-words-length pool s lent most h = omega (arith, (in_pool_lem s lent most h).1, length-take (count_of s) (drop (start_of s) pool))
+pub seen_in_pool : (flag : Bool) (place : Span) {s : Span} (lent most : ℕ) → s ≡ seen_list flag place → InPool place lent most → start_of s + count_of s ≤ lent
+seen_in_pool true place lent most e h = rw e (in_pool place lent most h)
+seen_in_pool false place lent most e h = rw e (omega arith)
 
-there-is : (pool : List ℕ) (s : Span) → when (is_there s) (words_of pool s) ≡ list_of pool s
-there-is pool Absent = refl
-there-is pool (Stretch start count) = refl
+-- ---- a list, as it is lent and as the definitions have it
+at-is : (pool : List ℕ) (place : Span) → list_at pool place ≡ list_of pool place
+at-is pool None = refl
+at-is pool (Some s) = refl
 
-seen-is : (f : Bool) (pool : List ℕ) (s : Span) → when (f && is_there s) (words_of pool s) ≡ seen f (list_of pool s)
-seen-is true pool s = there-is pool s
-seen-is false pool s = refl
+long : Option (List ℕ) → ℕ
+long none = 0
+long (some l) = length l
 
-pub coords_is : (F : Flags) (P : Pools) (g : Geometry)
-    → coords_in (seen_of F g) (words_of P.xy g.xy) (words_of P.z g.z) (words_of P.m g.m) (words_of P.t g.t) (words_of P.tm g.tm) ≡ coords_of F (lists_of P g)
-unfolding seen_of
-coords_is F P g =
-    λ i. record {
-      many = multi F;
-      xy = there-is P.xy g.xy i;
-      lanes = record { z = seen-is F.z P.z g.z i; m = seen-is F.m P.m g.m i; t = seen-is F.t P.t g.t i; tm = seen-is F.tm P.tm g.tm i };
-    }
+at_long : (pool : List ℕ) (place : Span) (lent most : ℕ) → InPool place lent most → long (list_at pool place) ≤ most
+unfolding long
+at_long pool None lent most h = omega arith
+at_long pool (Some s) lent most h = omega (arith, h.1, length-take s.count (drop s.start pool))
 
-pub words_fit : {l : List ℕ} (pool : List ℕ) (s : Span) (lent most : ℕ) → l ≡ words_of pool s → InPool s lent most → length l ≤ most
-words_fit pool s lent most e h = rw e (words-length pool s lent most h)
+module _ (pool : List ℕ) (o : OptionR (Bor (List ℕ))) where
+  pub lent-is : (place : Span) → list_in o ≡ list_at pool place → list_in o ≡ list_of pool place
+  lent-is place e = e ∙ at-is pool place
 
-pub part_words : (pool : List ℕ) (s : Span) {start end : ℕ} → start ≡ start_of s → end ≡ start_of s + count_of s → take (end - start) (drop start pool) ≡ words_of pool s
-part_words pool s p q =
-    let n : start_of s + count_of s - start_of s ≡ count_of s = omega arith in
-    rw (q, p, n)
+  pub seen-is : (flag : Bool) (place : Span) {s : Span} → s ≡ seen_list flag place → list_in o ≡ list_at pool s → list_in o ≡ seen flag (list_of pool place)
+  seen-is true place p e = e ∙ ap (list_at pool) p ∙ at-is pool place
+  seen-is false place p e = e ∙ ap (list_at pool) p
 
-pub bounds_absent : {s : Span} → s ≡ Absent → (0 ≡ start_of s) × (0 ≡ start_of s + count_of s)
-bounds_absent e = (sym (ap start_of e), sym (ap (λ (s : Span). start_of s + count_of s) e))
+  pub short : (place : Span) (lent most : ℕ) → list_in o ≡ list_at pool place → InPool place lent most → (l : Bor (List ℕ)) → o ≡ Some l → length l.now ≤ most
+  unfolding long
+  short place lent most e h l is =
+      let n : length l.now ≡ long (list_at pool place) = ap (λ (x : OptionR (Bor (List ℕ))). long (list_in x)) (sym is) ∙ ap long e in
+      omega (arith, n, at_long pool place lent most h)
 
-pub bounds_there : {s : Span} {start count : ℕ} → s ≡ Stretch start count → (start ≡ start_of s) × (start + count ≡ start_of s + count_of s)
-bounds_there e = (sym (ap start_of e), sym (ap (λ (s : Span). start_of s + count_of s) e))
+  -- the ends, none where there is no list of them
+  module _ (place : Span) (none_of : Bor (List ℕ)) {r : Bor (List ℕ)} (e : list_in o ≡ list_at pool place) (empty : none_of.now ≡ []) (is : r ≡ unwrap_or o none_of) where
+    pub ends-is : r.now ≡ or_none (list_of pool place)
+    ends-is = ap (λ (b : Bor (List ℕ)). b.now) is ∙ go o ∙ ap or_none (lent-is place e)
+      where
+        go : (o : OptionR (Bor (List ℕ))) → (unwrap_or o none_of).now ≡ or_none (list_in o)
+        go None = empty
+        go (Some l) = refl
 
-pub own_is : (F : Flags) (P : Pools) (g : Geometry) (own : Own) (idx : ℕ) {S : Seen} {xy ends z m t tm : List ℕ}
-    → S ≡ seen_of F g → xy ≡ words_of P.xy g.xy → ends ≡ words_of P.ends g.ends → z ≡ words_of P.z g.z → m ≡ words_of P.m g.m → t ≡ words_of P.t g.t → tm ≡ words_of P.tm g.tm
-    → own_s own (coords_of F (lists_of P g)) (or_none (list_of P.ends g.ends)) idx ≡ own_s own (coords_in S xy z m t tm) ends idx
-own_is F P g own idx es_is exy eends ez em et etm =
-    rw (es_is, exy, eends, ez, em, et, etm)
-    (sym (ap (λ (C : Coords). own_s own C (words_of P.ends g.ends) idx) (coords_is F P g)
-    ∙ ap (λ (e : List ℕ). own_s own (coords_of F (lists_of P g)) e idx) (words-is P.ends g.ends)))
-
--- ---- what each way to read a record's own lists says
-module _ {own : Own} (C : Coords) (ends : List ℕ) (idx : ℕ) where
-  pub own-point : own ≡ Point → own_s own C ends idx ≡ point_s C idx
-  unfolding own_s
-  own-point e = ap (λ (o : Own). own_s o C ends idx) e
-
-  pub own_line : {type : ℕ} {tagged : Bool} → own ≡ Line type tagged → own_s own C ends idx ≡ flat_s C type tagged idx
-  unfolding own_s
-  own_line e = ap (λ (o : Own). own_s o C ends idx) e
-
-  pub own-polygon : {tagged : Bool} → own ≡ Polygon tagged → own_s own C ends idx ≡ stretches_s 3 tagged idx C ends
-  unfolding own_s
-  own-polygon e = ap (λ (o : Own). own_s o C ends idx) e
-
-  pub own-lines : own ≡ MultiLineString → own_s own C ends idx ≡ multi_line_s C ends idx
-  unfolding own_s
-  own-lines e = ap (λ (o : Own). own_s o C ends idx) e
-
-  pub own_tin : own ≡ Tin → own_s own C ends idx ≡ tin_s C ends idx
-  unfolding own_s
-  own_tin e = ap (λ (o : Own). own_s o C ends idx) e
-
-  pub own_triangle : own ≡ Triangle → own_s own C ends idx ≡ triangle_s C ends true idx
-  unfolding own_s
-  own_triangle e = ap (λ (o : Own). own_s o C ends idx) e
-
-pub typed-line : (own : Own) {type : ℕ} {tagged : Bool} → own ≡ Line type tagged → Typed own → type < 32
-typed-line own e h = subst Typed e h
+    pub few_ends : (lent most : ℕ) → InPool place lent most → length r.now ≤ most
+    unfolding long
+    few_ends lent most h =
+        let n : length r.now ≡ long (list_at pool place) = ap length ends-is ∙ go (list_of pool place) ∙ ap long (sym (at-is pool place)) in
+        omega (arith, n, at_long pool place lent most h)
+      where
+        go : (l : Option (List ℕ)) → length (or_none l) ≡ long l
+        go none = refl
+        go (some l) = refl

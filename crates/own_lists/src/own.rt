@@ -1,182 +1,135 @@
 // A record's own lists, lent from the pools to the walk that reads them.
 ghost use Rattle.std.specs.Prelude.{◌≡◌, ◌+◌, ◌≤◌, length};
-ghost use Rattle.laws.specs.Script.{out, run};
 ghost use Rattle.kinds.specs.Geometry.{start_of, count_of};
-ghost use Rattle.store.specs.Lists.{pools_of, list_of, lists_of};
-ghost use Rattle.event_log.specs.Log.{events};
+ghost use Rattle.store.specs.Lists.{pools_in, list_of, lists_of};
+ghost use Rattle.event_log.specs.Says.{Says, of_events};
 ghost use Rattle.coords.specs.Coords.{coords_of};
+ghost use Rattle.coords.specs.Views.{list_in, coords_in};
 ghost use Rattle.lines.specs.Lines.{or_none};
-ghost use Rattle.coords.specs.Seen.{coords_in};
-ghost use Rattle.own_lists.specs.Own.{own_s, Typed, InPools, is_there, seen_of, words_of};
+ghost use Rattle.own_lists.specs.Own.{own_s, InPools, list_at, seen_list};
 
-use coords::{Frame, Seen, between, read_window};
-use kinds::answer::Answer;
+use coords::{Head, Lists, between, read_window};
+use event_log::EventLog;
 use kinds::flags::Flags;
-use kinds::geometry::{Geometry, Span};
-use kinds::geometry_type;
+use kinds::geometry::{Geometry, Stretch};
+use kinds::geometry_type::GeometryType;
+use kinds::refusal::Refusal;
 use lines::{read_line, read_multilinestring, read_stretches};
+use store::Pools;
 use triangles::{read_tin, read_triangle};
 
 // How a record's own lists are read: a walk of geometry_reader.rs that looks at no part.
-#[derive(Clone, Copy)]
+#[derive(Clone, Copy, Debug, PartialEq, Eq)]
 pub enum Own {
     Point,
-    Line { kind: u8, tagged: bool },
+    LineString { tagged: bool },
+    MultiPoint,
+    CircularString,
     Polygon { tagged: bool },
     MultiLineString,
     Tin,
     Triangle,
 }
 
-// Where a list begins and ends in its pool.
-#[derive(Clone, Copy)]
-struct Bounds {
-    start: usize,
-    end: usize,
+// A list of a pool that has it.
+fn list<T>(pool: &[T], place: Option<Stretch>) -> Option<&[T]>
+    requires { start_of place + count_of place ≤ length pool.now }
+    ensures { list_in result ≡ list_at pool.now place }
+{
+    let Some(Stretch { start, count }) = place else {
+        return None;
+    };
+    let start = start as usize;
+    let end = start + count as usize;
+    Some(&pool[start..end])
 }
 
-fn bounds_of(s: Span) -> Bounds
-    ensures { (result.start ≡ start_of s) × (result.end ≡ start_of s + count_of s) }
+// Where a list stands, if the flag lets it be seen.
+fn seen(flag: bool, place: Option<Stretch>) -> Option<Stretch>
+    ensures { result ≡ seen_list flag place }
 {
-    match s {
-        Span::Absent => Bounds { start: 0, end: 0 },
-        Span::Stretch { start, count } => Bounds {
-            start: start as usize,
-            end: (start as usize) + (count as usize),
-        },
-    }
+    if flag { place } else { None }
 }
 
-fn words(pool: &[u64], s: Span) -> &[u64]
-    requires { start_of s + count_of s ≤ length pool.now }
-    ensures { result.now ≡ words_of pool.now s }
+// A record's lists, of pools that have them.
+fn lists_of<'a>(pools: &Pools<'a>, flags: Flags, g: &Geometry) -> Lists<'a>
+    requires { InPools (pools_in pools.now) g.now }
+    ensures coords { coords_in result ≡ coords_of flags (lists_of (pools_in pools.now) g.now) }
+    ensures ends { result.ends.now ≡ or_none (list_of pools.now.ends.now g.now.ends) }
 {
-    let b = bounds_of(s);
-    let start = b.start;
-    let end = b.end;
-    &pool[start..end]
-}
-
-fn end_words(pool: &[u32], s: Span) -> &[u32]
-    requires { start_of s + count_of s ≤ length pool.now }
-    ensures { result.now ≡ words_of pool.now s }
-{
-    let b = bounds_of(s);
-    let start = b.start;
-    let end = b.end;
-    &pool[start..end]
-}
-
-fn is_there(s: Span) -> bool
-    ensures { result ≡ is_there s }
-{
-    match s {
-        Span::Absent => false,
-        Span::Stretch { start: _, count: _ } => true,
-    }
-}
-
-fn seen_of(flags: Flags, g: Geometry) -> Seen
-    ensures { result ≡ seen_of flags g }
-{
-    let xy = g.xy;
-    let z = g.z;
-    let m = g.m;
-    let t = g.t;
-    let tm = g.tm;
-    Seen {
+    Lists {
         many: flags.multi(),
-        xy: is_there(xy),
-        z: flags.z & is_there(z),
-        m: flags.m & is_there(m),
-        t: flags.t & is_there(t),
-        tm: flags.tm & is_there(tm),
+        xy: list(pools.xy, g.xy),
+        z: list(pools.z, seen(flags.z, g.z)),
+        m: list(pools.m, seen(flags.m, g.m)),
+        t: list(pools.t, seen(flags.t, g.t)),
+        tm: list(pools.tm, seen(flags.tm, g.tm)),
+        ends: list(pools.ends, g.ends).unwrap_or(&[]),
     }
 }
 
-fn read_lists(
-    log: &mut [u8],
-    feature: u32,
-    count: usize,
-    xy: &[u64],
-    ends: &[u32],
-    z: &[u64],
-    m: &[u64],
-    t: &[u64],
-    tm: &[u64],
-    seen: Seen,
-    own: Own,
-    idx: u32,
-) -> Answer
-    requires { (length xy.now ≤ 131072) × (length ends.now ≤ 65536) × Typed own }
-    ensures { let C = coords_in seen xy.now z.now m.now t.now tm.now in
-        run (events feature) (own_s own C ends.now idx) log.old count ≡ out result.number result.count log.new }
+fn read_lists(lists: &Lists, own: Own, idx: u32, log: &mut EventLog) -> Result<(), Refusal>
+    ensures { Says of_events (own_s own (coords_in lists.now) lists.now.ends.now idx) log.old log.new result }
 {
     match own {
         Own::Point => {
-            let w = between(seen.xy, xy.len(), 0, 1);
-            let f = Frame {
-                kind: geometry_type::POINT,
+            let point = Head {
+                kind: GeometryType::Point,
                 tagged: false,
-                size: 0,
                 idx,
             };
-            read_window(log, feature, count, xy, z, m, t, tm, seen, w, f)
+            read_window(lists, between(lists, 0, 1), 0, point, log)
         }
-        Own::Line { kind, tagged } => {
-            read_line(
-                log, feature, count, xy, z, m, t, tm, seen, kind, tagged, idx,
-            )
+        Own::LineString { tagged } => {
+            let line = Head {
+                kind: GeometryType::LineString,
+                tagged,
+                idx,
+            };
+            read_line(lists, line, log)
+        }
+        Own::MultiPoint => {
+            let points = Head {
+                kind: GeometryType::MultiPoint,
+                tagged: false,
+                idx,
+            };
+            read_line(lists, points, log)
+        }
+        Own::CircularString => {
+            let line = Head {
+                kind: GeometryType::CircularString,
+                tagged: false,
+                idx,
+            };
+            read_line(lists, line, log)
         }
         Own::Polygon { tagged } => {
-            let kind = geometry_type::POLYGON;
-            read_stretches(
-                log, feature, count, xy, ends, z, m, t, tm, seen, kind, tagged, idx,
-            )
+            let polygon = Head {
+                kind: GeometryType::Polygon,
+                tagged,
+                idx,
+            };
+            read_stretches(lists, polygon, log)
         }
-        Own::MultiLineString => {
-            read_multilinestring(log, feature, count, xy, ends, z, m, t, tm, seen, idx)
-        }
-        Own::Tin => read_tin(log, feature, count, xy, ends, z, m, t, tm, seen, idx),
-        Own::Triangle => {
-            read_triangle(log, feature, count, xy, ends, z, m, t, tm, seen, true, idx)
-        }
+        Own::MultiLineString => read_multilinestring(lists, idx, log),
+        Own::Tin => read_tin(lists, idx, log),
+        Own::Triangle => read_triangle(lists, true, idx, log),
     }
 }
 
 // A record's own lists, of pools that have them.
 pub fn read_own(
-    log: &mut [u8],
-    feature: u32,
-    count: usize,
-    xy: &[u64],
-    ends: &[u32],
-    z: &[u64],
-    m: &[u64],
-    t: &[u64],
-    tm: &[u64],
+    pools: &Pools,
     flags: Flags,
-    g: Geometry,
+    g: &Geometry,
     own: Own,
     idx: u32,
-) -> Answer
-    requires { InPools (pools_of xy.now ends.now z.now m.now t.now tm.now) g × Typed own }
-    ensures { let P = pools_of xy.now ends.now z.now m.now t.now tm.now in
-        run (events feature) (own_s own (coords_of flags (lists_of P g)) (or_none (list_of ends.now g.ends)) idx)
-        log.old count ≡ out result.number result.count log.new }
+    log: &mut EventLog,
+) -> Result<(), Refusal>
+    requires { InPools (pools_in pools.now) g.now }
+    ensures { let P = pools_in pools.now in
+        Says of_events (own_s own (coords_of flags (lists_of P g.now)) (or_none (list_of P.ends g.now.ends)) idx) log.old log.new result }
 {
-    let s = g.xy;
-    let xy = words(xy, s);
-    let s = g.ends;
-    let ends = end_words(ends, s);
-    let s = g.z;
-    let z = words(z, s);
-    let s = g.m;
-    let m = words(m, s);
-    let s = g.t;
-    let t = words(t, s);
-    let s = g.tm;
-    let tm = words(tm, s);
-    let seen = seen_of(flags, g);
-    read_lists(log, feature, count, xy, ends, z, m, t, tm, seen, own, idx)
+    read_lists(&lists_of(pools, flags, g), own, idx, log)
 }

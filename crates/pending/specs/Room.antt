@@ -1,15 +1,12 @@
 -- Room, lent and usable (SPEC 4.3, 6.19): for all that is pending, for more words, and for a number of records; and what a test of it tells.
-use Rattle.std.specs.Prelude.{◌≡◌, refl, Bool, true, false, cond, ◌&&◌, ℕ, ◌+◌, ◌≤◌, leb}
-use Rattle.std.proofs.Common.{sym, arith, leb-true, le-leb}
+use Rattle.std.specs.Prelude.{◌≡◌, refl, Bool, true, false, cond, ◌&&◌, ℕ, ◌+◌, ◌≤◌, ◌<◌, leb}
+use Rattle.std.proofs.Common.{sym, ap, ◌∙◌, arith, leb-true, le-leb}
 use Rattle.laws.specs.Every.{both}
-use Rattle.kinds.specs.LaneLaws.{lane_of_every, every_of_lanes}
-use Rattle.kinds.specs.Lanes.{Lane, xyL, endsL, zL, mL, tL, tmL, usable, lent_in, every_lane}
-use Rattle.kinds.specs.declared.geometry.Lent.{Lent}
-use Rattle.asking.specs.declared.ask.Added.{Added}
-use Rattle.asking.specs.Ask.{no_words}
-use Rattle.pending.specs.declared.words.Pending.{Pending}
-use Rattle.pending.specs.Words.{words_in, used}
-use Rattle.pending.specs.Growth.{more, grown_all, past_all}
+use Rattle.kinds.specs.LaneLaws.{usable_words, usable_is, lane_of_every, every_of_lanes, every_both}
+use Rattle.kinds.specs.Lanes.{Lane, xyL, endsL, zL, mL, tL, tmL, lane, usable, Lent, lent_in, every_lane}
+use Rattle.asking.specs.Ask.{Added, no_words}
+use Rattle.pending.specs.Words.{Pending, words_in, used}
+use Rattle.pending.specs.Growth.{more, without_ends, grown_all, past_all}
 
 abbrev pub room_in : ℕ → ℕ → ℕ → Bool
 room_in n count most = leb n count && leb n most
@@ -32,12 +29,43 @@ pub record ValuesFit (p : Pending) (a : Added) : Type 0 where
   pub t : used p.t + cond a.t 1 0 ≤ 65536
   pub tm : used p.tm + cond a.tm 1 0 ≤ 65536
 
+-- then the counts, as they grow, fit their words
+pub values_few : (p : Pending) (a : Added) → ValuesFit p a → (n : Lane) → (words_in p n).count < 4294967296 → (words_in p n).count + more (without_ends a) n < 4294967296
+values_few p a h xyL small = omega (arith, h.xy)
+values_few p a h endsL small = omega (arith, small)
+values_few p a h zL small = omega (arith, h.z)
+values_few p a h mL small = omega (arith, h.m)
+values_few p a h tL small = omega (arith, h.t)
+values_few p a h tmL small = omega (arith, h.tm)
+
 -- so many records and the words that are added have room: they are lent, and usable
 pub record Room (p : Pending) (a : Added) (needed records : ℕ) (pools : Lent) : Type 0 where
   pub table : needed ≤ records
   pub records_fit : needed ≤ 4096
   pub words : (n : Lane) → used (words_in p n) + more a n ≤ lent_in pools n
   pub fits : Fits p a
+
+-- ---- the test, as it is made: the lent and the usable each for all lanes
+regrouped : (a b c : Bool) → ((a && b) && c) ≡ (a && (b && c))
+regrouped true b c = refl
+regrouped false b c = refl
+
+pub has_room_is : (p : Pending) (a : Added) (needed records : ℕ) (pools ends : Lent) → ((n : Lane) → lane ends n ≡ used (words_in p n) + more a n)
+    → (room_in needed records 4096 && every_lane (λ n. leb (lane ends n) (lane pools n)) && every_lane (λ n. leb (lane ends n) (lane usable_words n))) ≡ has_room p a needed records pools
+unfolding has_room
+has_room_is p a needed records pools ends h =
+    regrouped (room_in needed records 4096) _ _ ∙ ap (λ (b : Bool). room_in needed records 4096 && b) (sym both_tests)
+  where
+    within-lent : Lane → Bool
+    within-lent n = leb (used (words_in p n) + more a n) (lent_in pools n)
+
+    within-usable : Lane → Bool
+    within-usable n = leb (used (words_in p n) + more a n) (usable n)
+
+    both_tests : every_lane (lane_room p pools a) ≡ (every_lane (λ n. leb (lane ends n) (lane pools n)) && every_lane (λ n. leb (lane ends n) (lane usable_words n)))
+    both_tests =
+        every_both within-lent within-usable
+        ∙ (λ i. every_lane (λ n. leb (sym (h n) i) (lane pools n)) && every_lane (λ n. leb (sym (h n) i) (sym (usable_is n) i)))
 
 pub room_in_lem : (n count most : ℕ) → room_in n count most ≡ true → (n ≤ count) × (n ≤ most)
 room_in_lem n count most h = let t = both (leb n count) (leb n most) h in (leb-true n count t.0, leb-true n most t.1)
@@ -47,8 +75,8 @@ unfolding has_room
 room_of_lem p a needed records pools h =
     let t = both (room_in needed records 4096) (every_lane (lane_room p pools a)) h in
     let r = room_in_lem needed records 4096 t.0 in
-    let lane : (n : Lane) → (used (words_in p n) + more a n ≤ lent_in pools n) × (used (words_in p n) + more a n ≤ usable n) = λ n. room_in_lem (used (words_in p n) + more a n) (lent_in pools n) (usable n) (lane_of_every (lane_room p pools a) t.1 n) in
-    record { table = r.0; records_fit = r.1; words = λ n. (lane n).0; fits = λ n. (lane n).1 }
+    let both_at : (n : Lane) → (used (words_in p n) + more a n ≤ lent_in pools n) × (used (words_in p n) + more a n ≤ usable n) = λ n. room_in_lem (used (words_in p n) + more a n) (lent_in pools n) (usable n) (lane_of_every (lane_room p pools a) t.1 n) in
+    record { table = r.0; records_fit = r.1; words = λ n. (both_at n).0; fits = λ n. (both_at n).1 }
 
 pub has_room_of : (p : Pending) (a : Added) (needed records : ℕ) (pools : Lent) → Room p a needed records pools → has_room p a needed records pools ≡ true
 unfolding has_room

@@ -1,22 +1,20 @@
 -- The pending words, by lane.
 use Rattle.std.specs.Prelude.{ℕ, ◌+◌}
-use Rattle.kinds.specs.Lanes.{Lane, xyL, endsL, zL, mL, tL, tmL}
+use Rattle.kinds.specs.declared.lanes.Lanes.{Lanes}
+use Rattle.kinds.specs.Lanes.{Lane, lane, lanes_of}
 use Rattle.pending.specs.declared.words.Words.{Words}
-use Rattle.pending.specs.declared.words.Pending.{Pending}
+
+abbrev pub Pending : Type 0
+Pending = Lanes Words
 
 abbrev pub words : ℕ → ℕ → Words
 words start count = record { start = start; count = count }
 
 abbrev pub words_in : Pending → Lane → Words
-words_in p xyL = p.xy
-words_in p endsL = p.ends
-words_in p zL = p.z
-words_in p mL = p.m
-words_in p tL = p.t
-words_in p tmL = p.tm
+words_in p n = lane p n
 
 abbrev pub pending_of : (Lane → Words) → Pending
-pending_of f = record { xy = f xyL; ends = f endsL; z = f zL; m = f mL; t = f tL; tm = f tmL }
+pending_of f = lanes_of f
 
 -- a pool is used up to its last pending word
 abbrev pub used : Words → ℕ

@@ -1,1 +1,1 @@
-pub mod Move
+pub mod PoolsMut

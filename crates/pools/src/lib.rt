@@ -1,5 +1,7 @@
-// What an accepted call changes: one function for each lent slice.
+// The pools that a writer is lent, and what an accepted call changes: one function for each lent slice.
 #![tactic(auto)]
+
+mod pools_mut;
 
 ghost use Rattle.std.specs.Prelude.{◌≡◌, true, cond, [], ◌∷◌, ◌+◌, ◌≤◌, ◌<◌, length};
 ghost use Rattle.std.proofs.lemmas.List.Edits.{sets};
@@ -9,21 +11,22 @@ ghost use Rattle.writing.specs.Calls.{table_after, root_of, moved};
 ghost use Rattle.pending.specs.Room.{Fits};
 
 use asking::ask::Ask;
-use pending::growth::{grown_all, used};
+use pending::growth::grown_all;
 use pending::part::part_of;
 use pending::words::Words;
+pub use pools_mut::PoolsMut;
 use writing::root::root_of;
 use writing::state::State;
 
 // Part i is record i + 1.
+#[tactic(auto, unfolding(writing::specs::Calls::table_after))]
 pub fn finish_part(table: &mut [u8], s: State, a: Ask)
     requires room { a.part ≡ true → s.parts + 2 ≤ records_lent table.old }
     requires fits { Fits s.pending a.added }
     ensures { table.new ≡ table_after s a table.old }
 {
     if a.part {
-        let added = a.added;
-        let part = part_of(s.typing.current, grown_all(s.pending, added));
+        let part = part_of(s.typing.current, grown_all(s.pending, a.added));
         store::put_record(table, (s.parts as usize) + 1, part);
     }
 }
@@ -40,57 +43,26 @@ pub fn push_pair(pool: &mut [u64], p: Words, on: bool, x: u64, y: u64)
     ensures { pool.new ≡ sets pool.old (used p) (cond on (x ∷ y ∷ []) []) }
 {
     if on {
-        let at = used(p);
+        let at = p.used();
         pool[at] = x;
         pool[at + 1] = y;
     }
 }
 
-pub fn push_word(pool: &mut [u64], p: Words, on: bool, word: u64)
+// A value, or an end.
+pub fn push_word<T: Copy>(pool: &mut [T], p: Words, on: bool, word: T)
     requires { used p + cond on 1 0 ≤ length pool.old }
     ensures { pool.new ≡ sets pool.old (used p) (cond on (word ∷ []) []) }
 {
     if on {
-        let at = used(p);
-        pool[at] = word;
+        pool[p.used()] = word;
     }
 }
 
-pub fn push_end(pool: &mut [u32], p: Words, on: bool, end: u32)
-    requires { used p + cond on 1 0 ≤ length pool.old }
-    ensures { pool.new ≡ sets pool.old (used p) (cond on (end ∷ []) []) }
-{
-    if on {
-        let at = used(p);
-        pool[at] = end;
-    }
-}
-
-// The pending words go to the front, one by one from the first: each is read before its place is written.
-pub fn move_words(pool: &mut [u64], p: Words)
+// The pending words go to the front.
+pub fn move_words<T: Copy>(pool: &mut [T], p: Words)
     requires { used p ≤ length pool.old }
     ensures { pool.new ≡ moved pool.old p.start p.count }
 {
-    let start = p.start as usize;
-    let count = p.count as usize;
-    let mut i = 0;
-    while i < count {
-        let word = pool[start + i];
-        pool[i] = word;
-        i += 1;
-    }
-}
-
-pub fn move_ends(pool: &mut [u32], p: Words)
-    requires { used p ≤ length pool.old }
-    ensures { pool.new ≡ moved pool.old p.start p.count }
-{
-    let start = p.start as usize;
-    let count = p.count as usize;
-    let mut i = 0;
-    while i < count {
-        let end = pool[start + i];
-        pool[i] = end;
-        i += 1;
-    }
+    pool.copy_within(p.start as usize..p.used(), 0);
 }

@@ -1,10 +1,9 @@
 -- B12 to B14 of SPEC 12.3, and more property bytes, read to a log of one record and four bytes that stay as they are; the places of texts that are not UTF-8.
-use Rattle.std.specs.Prelude.{◌≡◌, refl, true, false, List, [], ◌∷◌, ◌++◌, ℕ, take, replicate}
+use Rattle.std.specs.Prelude.{Some, ◌≡◌, refl, true, false, List, [], ◌∷◌, ◌++◌, ℕ, take, replicate}
 use Rattle.laws.specs.Script.{out, run, put, room_at}
 use Rattle.laws.specs.Cut.{said}
 use Rattle.event_layout.specs.Value.{value_bytes}
 use Rattle.event_log.specs.Values.{values}
-use Rattle.utf8.specs.declared.Bad.TheVariants.{At}
 use Rattle.utf8.specs.Utf8.{BadIs, has, row_of, begins, char_length, first_bad, is_utf8}
 use Rattle.property_value.specs.Column.{width_of, is_text}
 use Rattle.property_value.specs.Value.{malformed, word_of, text_ok, placed}
@@ -121,7 +120,7 @@ unfolding on_bytes on_from on_up_to on_item item_at value_at number_at word_of w
 crew-place = refl
 
 -- so there are answers of 6 with a place, both ways
-crew_bad : BadIs crew (At 7)
+crew_bad : BadIs crew (Some 7)
 unfolding put_of refusal_of malformed text_ok is_text placed is_utf8 first_bad Utf8.run char_length row_of begins has
 crew_bad = (put_bad false 0 3 11 0 crew [] refl).1
 

@@ -1,7 +1,7 @@
 -- SPEC 9.13: the place that goes with an answer, written and read. With 6 it is that of the refused text's first bad byte, and with any other answer 0.
 use Rattle.std.proofs.Math.Path.{◌≡◌, refl}
 use Rattle.std.proofs.Common.{sym, ◌∙◌, arith, leb-true, le-ltb, ne_eqb}
-use Rattle.std.specs.Prelude.{Bool, cond, not, List, ℕ, ◌+◌, ◌-◌, ◌≤◌, ◌<◌, min, leb, ltb, take}
+use Rattle.std.specs.Prelude.{Some, Bool, cond, not, List, ℕ, ◌+◌, ◌-◌, ◌≤◌, ◌<◌, min, leb, ltb, take}
 use Rattle.std.proofs.Math.Bool.{true, false}
 use Rattle.std.proofs.Math.ListN.{length}
 use Rattle.std.proofs.lemmas.Bool.{lt-leb}
@@ -9,15 +9,12 @@ use Rattle.laws.specs.Every.{never, both}
 use Rattle.laws.specs.Bytes.{word_at}
 use Rattle.laws.specs.Cut.{number_of, records_of, room_of, Said}
 use Rattle.event_log.specs.Values.{values}
-use Rattle.utf8.specs.declared.Bad.TheVariants.{At}
 use Rattle.utf8.specs.Utf8.{first_bad, BadIs}
 use Rattle.property_value.specs.Column.{is_text}
 use Rattle.property_value.specs.Value.{malformed, text_ok, placed}
 use Rattle.property_value.specs.ValueLaws.{text_fails, checked, not-placed}
-use Rattle.property_writer.specs.declared.PropertyPut.{PropertyPut}
-use Rattle.property_writer.specs.Writing.{property_bytes, refusal_of, put_of}
-use Rattle.property_reader.specs.declared.item.Item.TheVariants.{Refused, NotUtf8}
-use Rattle.property_reader.specs.Reading.{bytes_at, text_at, value_at, item_at, on_item, end_place, keep_place, bad_from, reading, bad_in}
+use Rattle.property_writer.specs.Writing.{PropertyPut, property_bytes, refusal_of, put_of}
+use Rattle.property_reader.specs.Reading.{Refused, NotUtf8, bytes_at, text_at, value_at, item_at, on_item, end_place, keep_place, bad_from, reading, bad_in}
 use Rattle.property_reader.specs.ReadingLaws.{text_start, text_in, type_at, every_item, on_unrolled}
 use Rattle.properties.specs.Readings.{Reached, Reached.first, Reached.skipped, Reached.found, every-reading}
 
@@ -40,7 +37,7 @@ module _ (waiting : Bool) (used column kind bits : ℕ) (text buffer : List ℕ)
       go false false false false full e = refl
 
   -- the type is held to be UTF-8, and the text's first bad byte is at the place
-  pub put_bad : answer.number ≡ 6 → (is_text kind ≡ true) × BadIs text (At answer.place)
+  pub put_bad : answer.number ≡ 6 → (is_text kind ≡ true) × BadIs text (Some answer.place)
   unfolding put_of placed
   put_bad six = rw six (text_fails kind text (text_refused six))
 
@@ -57,7 +54,7 @@ pub record RefusedText (bytes columns : List ℕ) (last place : ℕ) : Type 0 wh
   pub listed : word_at 2 bytes at < length columns
   pub type : is_text (type_at bytes columns at) ≡ true
   pub whole : text_start at + word_at 4 bytes (at + 2) ≤ length bytes
-  pub bad : BadIs (text_in bytes at) (At place)
+  pub bad : BadIs (text_in bytes at) (Some place)
 
 -- an item that is refused with 6 is such a text
 item_bad : (bytes columns : List ℕ) (last at place : ℕ) → Reached bytes columns last at → item_at bytes columns at ≡ NotUtf8 place → RefusedText bytes columns last place
@@ -78,7 +75,7 @@ bad_item bytes columns last place t =
     let types = both (leb 11 kind) (leb kind 13) t.type in
     let least = leb-true 11 kind types.0 in
     let most = leb-true kind 13 types.1 in
-    let found = checked kind (text_in bytes at) (At place) t.type t.bad in
+    let found = checked kind (text_in bytes at) (Some place) t.type t.bad in
     rw (
       le-ltb (length bytes - at) 2 (omega (arith, t.whole)),
       lt-leb (length columns) (word_at 2 bytes at) t.listed,

@@ -15,10 +15,9 @@ use Rattle.kinds.specs.declared.value.Value.{Value}
 use Rattle.property_value.specs.Column.{width_of}
 use Rattle.property_value.specs.Value.{text_ok, word_of}
 use Rattle.property_value.specs.ValueLaws.{word_back}
-use Rattle.property_reader.specs.declared.item.Item.TheVariants.{Found}
 use Rattle.property_writer.specs.Writing.{text_bytes, laid_down}
 use Rattle.property_writer.specs.WritingLaws.{value_text, value_number}
-use Rattle.property_reader.specs.Reading.{value_of, number_at, bytes_at, text_at, value_at, item_at, on_item, properties_from}
+use Rattle.property_reader.specs.Reading.{Found, value_of, number_at, bytes_at, text_at, value_at, item_at, on_item, properties_from}
 use Rattle.property_reader.specs.ReadingLaws.{unrolled}
 
 there : (front x : List ℕ) {n : ℕ} → length x ≡ n → length (front ++ x) ≡ length front + n

@@ -13,9 +13,7 @@ use Rattle.laws.specs.Script.{Script, stop, say, out, run}
 use Rattle.laws.specs.Cut.{number_of, records_of, room_of, said}
 use Rattle.kinds.specs.declared.value.Value.{Value}
 use Rattle.event_log.specs.Values.{values}
-use Rattle.property_reader.specs.declared.item.Item.{Item}
-use Rattle.property_reader.specs.declared.item.Item.TheVariants.{End, Refused, NotUtf8, Skipped, Found}
-use Rattle.property_reader.specs.Reading.{item_at, on_item, on_up_to, on_from, on_bytes, end_script, end_place, keep_place, reading, bad_in, says, stopped}
+use Rattle.property_reader.specs.Reading.{Item, End, Refused, NotUtf8, Skipped, Found, item_at, on_item, on_up_to, on_from, on_bytes, end_script, end_place, keep_place, reading, bad_in, says, stopped}
 use Rattle.property_reader.specs.ReadingLaws.{and_false, either, every_item}
 
 -- the places that a reading comes to: the first, and the one behind a property that does not end it

@@ -13,8 +13,7 @@ use Rattle.laws.specs.Script.{Script, stop, say}
 use Rattle.kinds.specs.declared.value.Value.{Value}
 use Rattle.utf8.specs.Utf8.{is_utf8, first_bad, run, char_length, row_of, begins, has}
 use Rattle.property_value.specs.Column.{width_of, is_text}
-use Rattle.property_writer.specs.declared.PropertyPut.{PropertyPut}
-use Rattle.property_writer.specs.Writing.{text_bytes, laid_down, property_bytes, refusal_of, put_of, bytes_after}
+use Rattle.property_writer.specs.Writing.{PropertyPut, text_bytes, laid_down, property_bytes, refusal_of, put_of, bytes_after}
 use Rattle.property_value.specs.Value.{malformed, text_ok}
 use Rattle.property_writer.specs.WritingLaws.{value_text, Accepted, accepted, put-done, bytes-done, used-then}
 use Rattle.property_reader.specs.Reading.{properties_from, reading}

@@ -1,64 +1,57 @@
-// Property bytes read into a log.
+//! Property bytes read into a log.
+use crate::answers::{number_of, place_of};
 use property_reader::PropertiesRead;
-use replay::{bytes_from, difference, first, number, past, unless};
+use replay::{Differences, Fields};
 
-// Where the parts of a case stand.
-const NUMBER: usize = 1;
+#[derive(Clone, Copy)]
+struct Case {
+    number: u32,
+    count: usize,
+    stopped: bool,
+    log_length: usize,
+    has_columns: bool,
+    column_count: usize,
+    stop: u32,
+    byte_count: usize,
+    place: usize,
+}
 
-const COUNT: usize = 2;
-
-const STOPPED: usize = 3;
-
-const LOG_LENGTH: usize = 4;
-
-const HAS_COLUMNS: usize = 5;
-
-const COLUMN_COUNT: usize = 6;
-
-const STOP: usize = 7;
-
-const BYTE_COUNT: usize = 8;
-
-const PLACE: usize = 9;
-
-const COLUMNS: usize = 10;
-
-pub fn read(case: &[u8], memory: &mut [u8]) -> u8 {
-    let length = number(case, LOG_LENGTH);
-    if length > memory.len() {
-        return difference::CASE;
+impl Case {
+    fn new(fields: &mut Fields<'_>) -> Case {
+        Case {
+            number: fields.number(),
+            count: fields.number() as usize,
+            stopped: fields.flag(),
+            log_length: fields.number() as usize,
+            has_columns: fields.flag(),
+            column_count: fields.number() as usize,
+            stop: fields.number(),
+            byte_count: fields.number() as usize,
+            place: fields.number() as usize,
+        }
     }
-    read_to(&mut memory[0..length], case)
 }
 
-fn read_to(log: &mut [u8], case: &[u8]) -> u8 {
+/// Behind its numbers a case has the columns, the property bytes, and the records that they are read as.
+pub fn read(mut fields: Fields<'_>, memory: &mut [u8]) -> Differences {
+    let case = Case::new(&mut fields);
+    let columns = fields.bytes(case.column_count);
+    let bytes = fields.bytes(case.byte_count);
+    let Some(log) = memory.get_mut(..case.log_length) else {
+        return Differences::CASE;
+    };
     replay::clear(log);
-    let answer = read_properties(log, case);
-    differences(answer, log, case)
+    let read = read_properties(case, columns, bytes, log);
+    Differences {
+        number: number_of(&read.stopped) != case.number,
+        count: read.count != case.count || place_of(&read.stopped) != case.place,
+        answer: read.stopped.unwrap_or(false) != case.stopped,
+        memory: !replay::holds(log, 0, fields.rest()),
+        ..Differences::NONE
+    }
 }
 
-fn read_properties(log: &mut [u8], case: &[u8]) -> PropertiesRead {
-    property_reader::read_properties(
-        first(past_columns(case), number(case, BYTE_COUNT)),
-        number(case, HAS_COLUMNS) == 1,
-        first(bytes_from(case, COLUMNS), number(case, COLUMN_COUNT)),
-        number(case, STOP) as u32,
-        log,
-    )
-}
-
-fn past_columns(case: &[u8]) -> &[u8] {
-    past(bytes_from(case, COLUMNS), number(case, COLUMN_COUNT))
-}
-
-fn differences(answer: PropertiesRead, log: &[u8], case: &[u8]) -> u8 {
-    let records = past(past_columns(case), number(case, BYTE_COUNT));
-    let stopped = number(case, STOPPED) == 1;
-    unless(
-        answer.number as usize == number(case, NUMBER),
-        difference::NUMBER,
-    ) | unless(answer.count == number(case, COUNT), difference::COUNT)
-        | unless(answer.stopped == stopped, difference::ANSWER)
-        | unless(answer.place == number(case, PLACE), difference::COUNT)
-        | unless(replay::holds(log, 0, records), difference::MEMORY)
+fn read_properties(case: Case, columns: &[u8], bytes: &[u8], log: &mut [u8]) -> PropertiesRead {
+    let columns = case.has_columns.then_some(columns);
+    property_reader::read_properties(bytes, columns, case.stop, log)
 }

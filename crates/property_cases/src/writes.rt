@@ -1,67 +1,64 @@
-// A property written to a buffer.
-use property_writer::PropertyPut;
-use replay::{byte, bytes_from, difference, first, number, past, unless, word};
+//! A property written to a buffer.
+use crate::answers::{number_of, place_of};
+use property_value::PropertyRefusal;
+use property_writer::Property;
+use replay::{Differences, Fields};
 
-// Where the parts of a case stand.
-const NUMBER: usize = 1;
+#[derive(Clone, Copy)]
+struct Case {
+    number: u32,
+    used_after: u32,
+    waiting: bool,
+    used: u32,
+    column: u32,
+    kind: u8,
+    bits: u64,
+    buffer_length: usize,
+    text_length: usize,
+    place: usize,
+}
 
-const USED_AFTER: usize = 2;
-
-const WAITING: usize = 3;
-
-const USED: usize = 4;
-
-const COLUMN: usize = 5;
-
-const KIND: usize = 6;
-
-const BITS: usize = 7;
-
-const BUFFER_LENGTH: usize = 9;
-
-const TEXT_LENGTH: usize = 10;
-
-const PLACE: usize = 11;
-
-const TEXT: usize = 12;
-
-pub fn written(case: &[u8], memory: &mut [u8]) -> u8 {
-    let length = number(case, BUFFER_LENGTH);
-    if length > memory.len() {
-        return difference::CASE;
+impl Case {
+    fn new(fields: &mut Fields<'_>) -> Case {
+        Case {
+            number: fields.number(),
+            used_after: fields.number(),
+            waiting: fields.flag(),
+            used: fields.number(),
+            column: fields.number(),
+            kind: fields.small_number(),
+            bits: fields.word(),
+            buffer_length: fields.number() as usize,
+            text_length: fields.number() as usize,
+            place: fields.number() as usize,
+        }
     }
-    written_to(&mut memory[0..length], case)
 }
 
-fn written_to(buffer: &mut [u8], case: &[u8]) -> u8 {
+/// Behind its numbers a case has the text, and the bytes that are laid down.
+pub fn written(mut fields: Fields<'_>, memory: &mut [u8]) -> Differences {
+    let case = Case::new(&mut fields);
+    let text = fields.bytes(case.text_length);
+    let Some(buffer) = memory.get_mut(..case.buffer_length) else {
+        return Differences::CASE;
+    };
     replay::clear(buffer);
-    let answer = put_property(buffer, case);
-    differences(answer, buffer, case)
+    let put = put_property(case, text, buffer);
+    Differences {
+        number: number_of(&put) != case.number,
+        count: put.unwrap_or(case.used) != case.used_after || place_of(&put) != case.place,
+        memory: !replay::holds(buffer, case.used as usize, fields.rest()),
+        ..Differences::NONE
+    }
 }
 
-fn put_property(buffer: &mut [u8], case: &[u8]) -> PropertyPut {
-    property_writer::put_property(
-        number(case, WAITING) == 1,
-        number(case, USED) as u32,
-        number(case, COLUMN) as u32,
-        byte(case, KIND),
-        word(case, BITS),
-        first(bytes_from(case, TEXT), number(case, TEXT_LENGTH)),
-        buffer,
-    )
-}
-
-fn differences(answer: PropertyPut, buffer: &[u8], case: &[u8]) -> u8 {
-    let laid = past(bytes_from(case, TEXT), number(case, TEXT_LENGTH));
-    unless(
-        answer.number as usize == number(case, NUMBER),
-        difference::NUMBER,
-    ) | unless(
-        answer.used as usize == number(case, USED_AFTER),
-        difference::COUNT,
-    ) | unless(answer.place == number(case, PLACE), difference::COUNT)
-        | unless(
-            replay::holds(buffer, number(case, USED), laid),
-            difference::MEMORY,
-        )
+// How many bytes of the buffer are used then.
+fn put_property(case: Case, text: &[u8], buffer: &mut [u8]) -> Result<u32, PropertyRefusal> {
+    let property = Property {
+        column: case.column,
+        kind: case.kind,
+        bits: case.bits,
+        text,
+    };
+    property_writer::put_property(case.waiting, case.used, property, buffer)
 }

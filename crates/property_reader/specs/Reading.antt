@@ -1,13 +1,50 @@
 -- Property bytes read: SPEC 9.6 to 9.11, 9.13. What a reading has to say is a script of values, and `run values` of it says what the log then holds.
-use Rattle.std.specs.Prelude.{Bool, false, cond, not, ◌&&◌, ◌||◌, List, ℕ, zero, suc, ◌+◌, ◌-◌, leb, ltb, eqb, length, get_or, take, drop}
+use Rattle.std.specs.Prelude.{◌≡◌, Option, Some, None, Result, Bool, false, [], cond, not, ◌&&◌, ◌||◌, List, ℕ, zero, suc, ◌+◌, ◌-◌, leb, ltb, eqb, length, get_or, take, drop}
+use Rattle.std.proofs.Common.{Ok, Err, Bor}
 use Rattle.laws.specs.Bytes.{word_at}
-use Rattle.laws.specs.Script.{Script, stop, say}
+use Rattle.laws.specs.Script.{Script, stop, say, out, run}
+use Rattle.event_log.specs.declared.log.Log.{Log}
+use Rattle.event_log.specs.declared.layouts.Values.{Values}
+use Rattle.event_log.specs.Values.{values}
 use Rattle.kinds.specs.declared.value.Value.{Value}
 use Rattle.utf8.specs.Utf8.{first_bad}
 use Rattle.property_value.specs.Column.{width_of}
-use Rattle.property_value.specs.Value.{text_ok, word_of}
-use Rattle.property_reader.specs.declared.item.Item.{Item}
-use Rattle.property_reader.specs.declared.item.Item.TheVariants.{End, Refused, NotUtf8, Skipped, Found}
+use Rattle.property_value.specs.Value.{text_ok, word_of, placed}
+use Rattle.kinds.specs.Refusal.{number_of}
+use Rattle.property_value.specs.Refused.{answer_of, answer_place}
+use Rattle.property_value.specs.declared.refused.PropertyRefusal.{PropertyRefusal}
+use Rattle.property_value.specs.declared.refused.PropertyRefusal.TheVariants.{NotUtf8 as BadText, Other}
+use Rattle.property_reader.specs.declared.item.Property.{Property}
+
+-- what stands at a place: nothing more, a refusal's number, a text whose first bad byte is at a place of its own, a property with no value, or one
+-- with a value, and the place behind it
+pub data Item : Type 0 where
+  End : Item
+  Refused : ℕ → Item
+  NotUtf8 : ℕ → Item
+  Skipped : ℕ → Item
+  Found : Value → ℕ → Item
+
+-- what the code answers there
+abbrev pub property_as : Option Value → ℕ → Item
+property_as None next = Skipped next
+property_as (Some value) next = Found value next
+
+abbrev pub refused_as : PropertyRefusal → Item
+refused_as (BadText place) = NotUtf8 place
+refused_as (Other refusal) = Refused (number_of refusal)
+
+abbrev pub item_as : Result Property PropertyRefusal → Item
+item_as (Ok property) = property_as property.value property.next
+item_as (Err refusal) = refused_as refusal
+
+abbrev pub end_or : Option Property → Item
+end_or None = End
+end_or (Some property) = property_as property.value property.next
+
+abbrev pub place_as : Result (Option Property) PropertyRefusal → Item
+place_as (Ok property) = end_or property
+place_as (Err refusal) = refused_as refusal
 
 abbrev pub value_of : ℕ → ℕ → ℕ → ℕ → Value
 value_of column kind len word = record { column = column; kind = kind; len = len; word = word }
@@ -72,6 +109,11 @@ module _ {R : Type 0} (ended : ℕ → ℕ → R) (said : Value → R → R) whe
   unfoldable pub on_bytes : List ℕ → Bool → List ℕ → ℕ → R
   on_bytes bytes has_columns columns last = cond has_columns (on_from (take 65536 bytes) columns last 0) (ended 0 0)
 
+-- the columns' types that are listed, if there is a list
+abbrev pub listed : Option (Bor (List ℕ)) → List ℕ
+listed None = []
+listed (Some columns) = columns.now
+
 -- ---- what it has to say
 
 abbrev pub end_script : ℕ → ℕ → Script Value
@@ -107,3 +149,15 @@ says column (say value s) = eqb value.column column || says column s
 -- whether it stopped (SPEC 9.11): all was said, and the named column's value with it
 unfoldable pub stopped : ℕ → Script Value → ℕ → Bool
 stopped last s number = eqb number 0 && says last s
+
+-- what the code answers of it: a refused reading did not stop there
+abbrev pub has_stopped : Result Bool PropertyRefusal → Bool
+has_stopped (Ok stopped) = stopped
+has_stopped (Err refusal) = false
+
+-- what a reading from the first byte on leaves of a log, and answers
+pub record Read (bytes columns : List ℕ) (last : ℕ) (a b : Log Values) (answer : Result Bool PropertyRefusal) : Type 0 where
+  pub memory : b.bytes.ghost_name ≡ a.bytes.ghost_name
+  pub log_value : run values (properties_from bytes columns last 0) a.bytes.now a.count ≡ out (answer_of answer) b.count b.bytes.now
+  pub stopped_value : has_stopped answer ≡ stopped last (properties_from bytes columns last 0) (answer_of answer)
+  pub place_value : answer_place answer ≡ placed (answer_of answer) (bad_from bytes columns last 0)

@@ -11,9 +11,7 @@ use Rattle.kinds.specs.declared.value.Value.{Value}
 use Rattle.utf8.specs.Utf8.{first_bad}
 use Rattle.property_value.specs.Column.{width_of}
 use Rattle.property_value.specs.Value.{text_ok}
-use Rattle.property_reader.specs.declared.item.Item.{Item}
-use Rattle.property_reader.specs.declared.item.Item.TheVariants.{End, Refused, NotUtf8, Skipped, Found}
-use Rattle.property_reader.specs.Reading.{value_of, number_at, bytes_at, text_at, value_at, item_at, on_item, on_up_to, on_from, on_bytes, end_script, properties_from, reading}
+use Rattle.property_reader.specs.Reading.{Item, End, Refused, NotUtf8, Skipped, Found, value_of, number_at, bytes_at, text_at, value_at, item_at, on_item, on_up_to, on_from, on_bytes, end_script, properties_from, reading}
 
 pub and_false : (t u : Bool) → u ≡ false → (t && u) ≡ false
 and_false true u e = e

@@ -1,43 +1,42 @@
 -- What the proofs of the reading code cite.
-use Rattle.std.specs.Prelude.{◌≡◌, refl, Bool, true, false, cond, List, ℕ, ◌-◌, ◌≤◌, ◌<◌, min, ltb, eqb, length, get_or, take, drop}
+use Rattle.std.specs.Prelude.{Option, Some, None, ◌≡◌, refl, Bool, true, false, cond, List, ℕ, ◌-◌, ◌≤◌, ◌<◌, min, ltb, eqb, length, get_or, take, drop}
 use Rattle.std.proofs.Math.Path.{sym}
-use Rattle.std.proofs.Common.{ap, ◌∙◌, arith, take_all}
+use Rattle.std.proofs.Common.{Ok, Err, ap, ◌∙◌, arith, take_all}
 use borrow.Author.Tests.{ltb-true, ltb-false, eq-eqb, ne_eqb}
 use Rattle.laws.specs.Bytes.{word_at, part_cons}
-use Rattle.laws.specs.Script.{Script, stop, say, one, out, run, run_stop, ◌⨟◌, seq_done, seq_refused, one_nine}
+use Rattle.laws.specs.Script.{Script, stop, say, one, run, run_stop, ◌⨟◌, seq_done, seq_refused, one_nine}
 use Rattle.kinds.specs.declared.value.Value.{Value}
+use Rattle.kinds.specs.declared.refusal.Refusal.{Refusal}
+use Rattle.kinds.specs.Refusal.{number_of, refused}
+use Rattle.event_log.specs.declared.log.Log.{Log}
+use Rattle.event_log.specs.declared.layouts.Values.{Values}
 use Rattle.event_log.specs.Values.{values}
+use Rattle.event_log.specs.Says.{Says, of_values}
+use Rattle.property_value.specs.declared.refused.PropertyRefusal.{PropertyRefusal}
+use Rattle.property_value.specs.declared.refused.PropertyRefusal.TheVariants.{NotUtf8 as BadText, Other}
 use Rattle.property_value.specs.Value.{placed}
 use Rattle.property_value.specs.ValueLaws.{not-placed}
-use Rattle.property_reader.specs.declared.item.Item.{Item}
-use Rattle.property_reader.specs.declared.item.Item.TheVariants.{End, Refused, NotUtf8, Skipped, Found}
-use Rattle.property_reader.specs.Reading.{item_at, on_item, on_from, end_script, properties_from, end_place, keep_place, bad_from, says, stopped}
+use Rattle.property_reader.specs.Reading.{Item, End, Refused, NotUtf8, Skipped, Found, Read, property_as, refused_as, item_at, on_item, on_from, end_script, properties_from, end_place, keep_place, bad_from, says, stopped}
 use Rattle.property_reader.specs.ReadingLaws.{and_false, Ahead, ahead, on_unrolled}
 
 -- ---- on the way
 
--- `count` records stand in the log, and the reading goes on at a place
-pub record Going (bytes columns : List ℕ) (last : ℕ) (log₀ log : List ℕ) (at count : ℕ) : Type 0 where
+-- the reading goes on at a place, with the log as it is
+pub record Going (bytes columns : List ℕ) (last : ℕ) (a b : Log Values) (at : ℕ) : Type 0 where
   pub inside : at ≤ length bytes
-  pub long : length log ≡ length log₀
-  pub same-run : run values (properties_from bytes columns last 0) log₀ 0 ≡ run values (properties_from bytes columns last at) log count
+  pub memory : b.bytes.ghost_name ≡ a.bytes.ghost_name
+  pub same-run : run values (properties_from bytes columns last 0) a.bytes.now a.count ≡ run values (properties_from bytes columns last at) b.bytes.now b.count
   pub same-says : says last (properties_from bytes columns last 0) ≡ says last (properties_from bytes columns last at)
   pub same_bad : bad_from bytes columns last 0 ≡ bad_from bytes columns last at
 
-abbrev pub Ended : List ℕ → List ℕ → ℕ → List ℕ → List ℕ → ℕ → ℕ → Bool → ℕ → Type 0
-Ended bytes columns last log₀ log number count b place =
-    (run values (properties_from bytes columns last 0) log₀ 0 ≡ out number count log)
-    × ((b ≡ stopped last (properties_from bytes columns last 0) number)
-    × (place ≡ placed number (bad_from bytes columns last 0)))
-
-pub begun : (bytes columns : List ℕ) (last : ℕ) (log : List ℕ) → Going bytes columns last log log 0 0
-begun bytes columns last log = record { inside = omega arith; long = refl; same-run = refl; same-says = refl; same_bad = refl }
+pub begun : (bytes columns : List ℕ) (last : ℕ) (a : Log Values) → Going bytes columns last a a 0
+begun bytes columns last a = record { inside = omega arith; memory = refl; same-run = refl; same-says = refl; same_bad = refl }
 
 no_place : (t : Bool) (place : ℕ) → place ≡ 0 → cond t place 0 ≡ 0
 no_place true place e = e
 no_place false place e = refl
 
-module _ {bytes columns : List ℕ} {last : ℕ} {log₀ log : List ℕ} {at count : ℕ} (g : Going bytes columns last log₀ log at count) where
+module _ {bytes columns : List ℕ} {last : ℕ} {a b : Log Values} {at : ℕ} (g : Going bytes columns last a b at) where
   here : {R : Type 0} (ended : ℕ → ℕ → R) (said : Value → R → R) (i : Item) → i ≡ item_at bytes columns at
       → on_from ended said bytes columns last at ≡ on_item ended said last (on_from ended said bytes columns last) i
   here ended said i e = on_unrolled ended said bytes columns last at ∙ ap (on_item ended said last (on_from ended said bytes columns last)) (sym e)
@@ -45,8 +44,8 @@ module _ {bytes columns : List ℕ} {last : ℕ} {log₀ log : List ℕ} {at cou
   abbrev script : Item → Script Value
   script = on_item end_script say last (properties_from bytes columns last)
 
-  runs_on : (i : Item) → i ≡ item_at bytes columns at → run values (properties_from bytes columns last 0) log₀ 0 ≡ run values (script i) log count
-  runs_on i e = g.same-run ∙ ap (λ (s : Script Value). run values s log count) (here end_script say i e)
+  runs_on : (i : Item) → i ≡ item_at bytes columns at → run values (properties_from bytes columns last 0) a.bytes.now a.count ≡ run values (script i) b.bytes.now b.count
+  runs_on i e = g.same-run ∙ ap (λ (s : Script Value). run values s b.bytes.now b.count) (here end_script say i e)
 
   says_on : (i : Item) → i ≡ item_at bytes columns at → says last (properties_from bytes columns last 0) ≡ says last (script i)
   says_on i e = g.same-says ∙ ap (says last) (here end_script say i e)
@@ -54,72 +53,93 @@ module _ {bytes columns : List ℕ} {last : ℕ} {log₀ log : List ℕ} {at cou
   bad_on : (i : Item) → i ≡ item_at bytes columns at → bad_from bytes columns last 0 ≡ on_item end_place keep_place last (bad_from bytes columns last) i
   bad_on i e = g.same_bad ∙ here end_place keep_place i e
 
-  pub skipped_ahead : (next : ℕ) → Skipped next ≡ item_at bytes columns at → (at < next) × (next ≤ length bytes)
+  skipped_ahead : (next : ℕ) → Skipped next ≡ item_at bytes columns at → (at < next) × (next ≤ length bytes)
   unfolding Ahead
   skipped_ahead next e = rw (← e) at (ahead bytes columns at)
 
-  pub found_ahead : (value : Value) (next : ℕ) → Found value next ≡ item_at bytes columns at → (at < next) × (next ≤ length bytes)
+  found_ahead : (value : Value) (next : ℕ) → Found value next ≡ item_at bytes columns at → (at < next) × (next ≤ length bytes)
   unfolding Ahead
   found_ahead value next e = rw (← e) at (ahead bytes columns at)
 
-  pub at-end : End ≡ item_at bytes columns at → Ended bytes columns last log₀ log 0 count false 0
-  unfolding on_item says stopped placed
-  at-end e = (runs_on End e ∙ run_stop values 0 log count, (sym (says_on End e), refl))
+  -- a property leads on, with a value or with none
+  pub leads : (value : Option Value) (next : ℕ) → property_as value next ≡ item_at bytes columns at → (at < next) × (next ≤ length bytes)
+  leads None next e = skipped_ahead next e
+  leads (Some value) next e = found_ahead value next e
 
-  pub at_refused : (number : ℕ) → Refused number ≡ item_at bytes columns at → Ended bytes columns last log₀ log number count false 0
+  pub at-end : End ≡ item_at bytes columns at → Read bytes columns last a b (Ok false)
   unfolding on_item says stopped placed
-  at_refused number e = (
-    runs_on (Refused number) e ∙ run_stop values number log count,
-    (sym (and_false (eqb number 0) _ (says_on (Refused number) e)), sym (no_place (eqb number 6) _ (bad_on (Refused number) e))),
-  )
+  at-end e = record { memory = g.memory; log_value = runs_on End e ∙ run_stop values 0 b.bytes.now b.count; stopped_value = sym (says_on End e); place_value = refl }
 
-  pub at_not_utf8 : (place : ℕ) → NotUtf8 place ≡ item_at bytes columns at → Ended bytes columns last log₀ log 6 count false place
+  pub at_refused : (refusal : PropertyRefusal) → refused_as refusal ≡ item_at bytes columns at → Read bytes columns last a b (Err refusal)
   unfolding on_item says stopped placed
-  at_not_utf8 place e = (runs_on (NotUtf8 place) e ∙ run_stop values 6 log count, (refl, sym (bad_on (NotUtf8 place) e)))
+  at_refused (BadText place) e =
+      record {
+        memory = g.memory;
+        log_value = runs_on (NotUtf8 place) e ∙ run_stop values 6 b.bytes.now b.count;
+        stopped_value = refl;
+        place_value = sym (bad_on (NotUtf8 place) e);
+      }
+  at_refused (Other refusal) e =
+      let number : ℕ = number_of refusal in
+      record {
+        memory = g.memory;
+        log_value = runs_on (Refused number) e ∙ run_stop values number b.bytes.now b.count;
+        stopped_value = sym (and_false (eqb number 0) _ (says_on (Refused number) e));
+        place_value = sym (no_place (eqb number 6) _ (bad_on (Refused number) e));
+      }
 
-  pub at_skipped : (next : ℕ) → Skipped next ≡ item_at bytes columns at → Going bytes columns last log₀ log next count
+  pub at_skipped : (next : ℕ) → Skipped next ≡ item_at bytes columns at → Going bytes columns last a b next
   unfolding on_item
   at_skipped next e =
       record {
         inside = (skipped_ahead next e).1;
-        long = g.long;
+        memory = g.memory;
         same-run = runs_on (Skipped next) e;
         same-says = says_on (Skipped next) e;
         same_bad = bad_on (Skipped next) e;
       }
 
-  module _ (value : Value) (next : ℕ) (e : Found value next ≡ item_at bytes columns at) {number count' : ℕ} {log' : List ℕ} (said : run values (one value) log count ≡ out number count' log') where
+  module _ (value : Value) (next : ℕ) (e : Found value next ≡ item_at bytes columns at) where
     later : Script Value
     later = cond (eqb value.column last) (stop 0) (properties_from bytes columns last next)
 
-    runs_one : run values (properties_from bytes columns last 0) log₀ 0 ≡ run values (one value ⨟ later) log count
+    runs_one : run values (properties_from bytes columns last 0) a.bytes.now a.count ≡ run values (one value ⨟ later) b.bytes.now b.count
     unfolding on_item ◌⨟◌ later
     runs_one = runs_on (Found value next) e
 
-    pub at_full : (number ≡ 0 → ⊥) → Ended bytes columns last log₀ log' number count' false 0
+    pub at_full : {R : Type 0} {c : Log Values} {refusal : Refusal} → Says {R = R} of_values (one value) b c (Err refusal) → Read bytes columns last a c (Err (Other refusal))
     unfolding stopped
-    at_full h = (
-      runs_one ∙ seq_refused values (one value) later log count said h,
-      (rw (ne_eqb number 0 h), sym (not-placed number _ (λ six. omega (arith, one_nine values value log count said h)))),
-    )
+    at_full {c = c} {refusal = refusal} said =
+        let h = refused refusal in
+        record {
+          memory = said.memory ∙ g.memory;
+          log_value = runs_one ∙ seq_refused values (one value) later b.bytes.now b.count said.said h;
+          stopped_value = rw (ne_eqb (number_of refusal) 0 h);
+          place_value = sym (not-placed (number_of refusal) _ (λ six. omega (arith, one_nine values value b.bytes.now b.count said.said h)));
+        }
 
-    module _ (done : number ≡ 0) where
-      runs_after : run values (properties_from bytes columns last 0) log₀ 0 ≡ run values later log' count'
-      runs_after = runs_one ∙ seq_done values (one value) later log count (said ∙ ap (λ (k : ℕ). out k count' log') done)
+    module _ {R : Type 0} {u : R} {c : Log Values} (said : Says of_values (one value) b c (Ok u)) where
+      runs_after : run values (properties_from bytes columns last 0) a.bytes.now a.count ≡ run values later c.bytes.now c.count
+      runs_after = runs_one ∙ seq_done values (one value) later b.bytes.now b.count said.said
 
-      pub at_last : value.column ≡ last → Ended bytes columns last log₀ log' 0 count' true 0
+      pub at_last : value.column ≡ last → Read bytes columns last a c (Ok true)
       unfolding on_item says stopped later placed
       at_last h =
           let t = eq-eqb value.column last h in
-          (runs_after ∙ rw t (run_stop values 0 log' count'), (sym (says_on (Found value next) e ∙ rw t), refl))
+          record {
+            memory = said.memory ∙ g.memory;
+            log_value = runs_after ∙ rw t (run_stop values 0 c.bytes.now c.count);
+            stopped_value = sym (says_on (Found value next) e ∙ rw t);
+            place_value = refl;
+          }
 
-      pub at_next : (value.column ≡ last → ⊥) → length log' ≡ length log → Going bytes columns last log₀ log' next count'
+      pub at_next : (value.column ≡ last → ⊥) → Going bytes columns last a c next
       unfolding on_item says later
-      at_next h l =
+      at_next h =
           let t = ne_eqb value.column last h in
           record {
             inside = (found_ahead value next e).1;
-            long = l ∙ g.long;
+            memory = said.memory ∙ g.memory;
             same-run = rw t at runs_after;
             same-says = rw t at (says_on (Found value next) e);
             same_bad = rw t at (bad_on (Found value next) e);

@@ -1,120 +1,141 @@
 // What stands at a place of property bytes.
 ghost use Rattle.std.specs.Prelude.{◌≡◌, true, ◌+◌, ◌≤◌, length};
+ghost use Rattle.kinds.specs.ColumnType.{type_number};
 ghost use Rattle.laws.specs.Bytes.{word_at};
-ghost use Rattle.property_value.specs.Column.{is_width};
-ghost use Rattle.property_reader.specs.Reading.{number_at, text_at, bytes_at, value_at, item_at};
+ghost use Rattle.property_value.specs.Column.{width_of, is_width};
+ghost use Rattle.property_reader.specs.Reading.{item_as, place_as, number_at, text_at, bytes_at, value_at, item_at};
 
+use kinds::column_type::ColumnType;
+use kinds::refusal::Refusal;
 use kinds::value::Value;
-use kinds::{column_type, refusal};
 use numbers::{u16_at, u32_at, u64_at};
-use property_value::{bad_text, width, word_of};
-use utf8::Bad;
+use property_value::{PropertyRefusal, bad_text, width, word_of};
 
-// A text that is not UTF-8 has the place of its first bad byte, counted from its own first; a value is found with the place after it.
+// A property that stands there: its value, which one of no column type has not, and where the next property starts.
 #[derive(Clone, Copy)]
-pub enum Item {
-    End,
-    Refused(u8),
-    NotUtf8(usize),
-    Skipped(usize),
-    Found(Value, usize),
+pub struct Property {
+    pub value: Option<Value>,
+    pub next: usize,
 }
 
-// One trailing byte is no property.
-pub fn item_at(bytes: &[u8], columns: &[u8], at: usize) -> Item
+// None where the bytes are read to their end. One trailing byte is no property.
+pub fn property_at(
+    bytes: &[u8],
+    columns: &[u8],
+    at: usize,
+) -> Result<Option<Property>, PropertyRefusal>
     requires { at ≤ length bytes.now }
-    ensures { result ≡ item_at bytes.now columns.now at }
+    ensures { place_as result ≡ item_at bytes.now columns.now at }
 {
     if bytes.len() - at < 2 {
-        return Item::End;
+        return Ok(None);
     }
     let column = u16_at(bytes, at);
     let index = column as usize;
     if index >= columns.len() {
-        return Item::Refused(refusal::COLUMN_UNKNOWN);
+        return Err(PropertyRefusal::Other(Refusal::Missing));
     }
-    value_at(bytes, column, columns[index], at + 2)
+    let property = value_at(bytes, column, columns[index], at + 2)?;
+    Ok(Some(property))
 }
 
-fn value_at(bytes: &[u8], column: u16, kind: u8, at: usize) -> Item
+fn value_at(bytes: &[u8], column: u16, kind: u8, at: usize) -> Result<Property, PropertyRefusal>
     requires { at ≤ length bytes.now }
-    ensures { result ≡ value_at bytes.now column kind at }
+    ensures { item_as result ≡ value_at bytes.now column kind at }
 {
-    if kind > column_type::BINARY {
-        return Item::Skipped(at);
+    let Ok(kind) = ColumnType::try_from(kind) else {
+        return Ok(Property {
+            value: None,
+            next: at,
+        });
+    };
+    match width(kind) {
+        Some(len) => number_at(bytes, column, kind, len, at),
+        None => text_at(bytes, column, kind, at),
     }
-    if kind < column_type::STRING {
-        return number_at(bytes, column, kind, at);
-    }
-    text_at(bytes, column, kind, at)
 }
 
-fn number_at(bytes: &[u8], column: u16, kind: u8, at: usize) -> Item
-    requires { (at ≤ length bytes.now) × (kind ≤ 10) }
-    ensures { result ≡ number_at bytes.now column kind at }
+fn number_at(
+    bytes: &[u8],
+    column: u16,
+    kind: ColumnType,
+    len: usize,
+    at: usize,
+) -> Result<Property, PropertyRefusal>
+    requires { (at ≤ length bytes.now) × (type_number kind ≤ 10) × (len ≡ width_of (type_number kind)) }
+    ensures { item_as result ≡ number_at bytes.now column (type_number kind) at }
 {
-    let len = width(kind);
     if bytes.len() - at < len {
-        return Item::Refused(refusal::VALUE_CUT);
+        return Err(PropertyRefusal::Other(Refusal::ValueCut));
     }
     let word = word_of(kind, bits_at(bytes, at, len));
     let value = Value {
         column,
-        kind,
+        kind: kind.number(),
         len: len as u32,
         word,
     };
-    Item::Found(value, at + len)
+    Ok(Property {
+        value: Some(value),
+        next: at + len,
+    })
 }
 
-// One routine for each width, and no loop over the bytes.
+// One routine for each width, and no loop over the bytes. A width is a number, since it is a count of bytes that is added to places.
 fn bits_at(bytes: &[u8], at: usize, len: usize) -> u64
     requires { (is_width len ≡ true) × (at + len ≤ length bytes.now) }
     ensures { result ≡ word_at len bytes.now at }
 {
     match len {
-        1 => wide(bytes[at]),
+        1 => bytes[at] as u64,
         2 => u16_at(bytes, at) as u64,
         4 => u32_at(bytes, at) as u64,
         _ => u64_at(bytes, at),
     }
 }
 
-fn wide(b: u8) -> u64
-    ensures { result ≡ b }
-{
-    b as u64
-}
-
 // A value with a length first.
-fn text_at(bytes: &[u8], column: u16, kind: u8, at: usize) -> Item
+fn text_at(
+    bytes: &[u8],
+    column: u16,
+    kind: ColumnType,
+    at: usize,
+) -> Result<Property, PropertyRefusal>
     requires { at ≤ length bytes.now }
-    ensures { result ≡ text_at bytes.now column kind at }
+    ensures { item_as result ≡ text_at bytes.now column (type_number kind) at }
 {
     if bytes.len() - at < 4 {
-        return Item::Refused(refusal::VALUE_CUT);
+        return Err(PropertyRefusal::Other(Refusal::ValueCut));
     }
     bytes_at(bytes, column, kind, at + 4, u32_at(bytes, at))
 }
 
-fn bytes_at(bytes: &[u8], column: u16, kind: u8, start: usize, len: u32) -> Item
+fn bytes_at(
+    bytes: &[u8],
+    column: u16,
+    kind: ColumnType,
+    start: usize,
+    len: u32,
+) -> Result<Property, PropertyRefusal>
     requires { start ≤ length bytes.now }
-    ensures { result ≡ bytes_at bytes.now column kind start len }
+    ensures { item_as result ≡ bytes_at bytes.now column (type_number kind) start len }
 {
     let count = len as usize;
     if bytes.len() - start < count {
-        return Item::Refused(refusal::VALUE_CUT);
+        return Err(PropertyRefusal::Other(Refusal::ValueCut));
     }
     let end = start + count;
-    let bad = bad_text(kind, &bytes[start..end]);
-    if let Bad::At(place) = bad {
-        return Item::NotUtf8(place);
+    if let Some(place) = bad_text(kind, &bytes[start..end]) {
+        return Err(PropertyRefusal::NotUtf8(place));
     }
     let value = Value {
         column,
-        kind,
+        kind: kind.number(),
         len,
         word: start as u64,
     };
-    Item::Found(value, end)
+    Ok(Property {
+        value: Some(value),
+        next: end,
+    })
 }

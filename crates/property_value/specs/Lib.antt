@@ -2,3 +2,4 @@ pub mod Column
 pub mod ColumnLaws
 pub mod Value
 pub mod ValueLaws
+pub mod Refused

@@ -1,7 +1,5 @@
 -- Which bits and bytes are a value of a column type, and the word that a number is read to.
-use Rattle.std.specs.Prelude.{◌≡◌, Bool, true, false, cond, ◌&&◌, ◌||◌, List, ℕ, ◌^◌, leb, ltb, eqb}
-use Rattle.utf8.specs.declared.Bad.{Bad}
-use Rattle.utf8.specs.declared.Bad.TheVariants.{Nowhere, At}
+use Rattle.std.specs.Prelude.{Option, Some, None, ◌≡◌, Bool, true, false, cond, ◌&&◌, ◌||◌, List, ℕ, ◌^◌, leb, ltb, eqb}
 use Rattle.utf8.specs.Utf8.{first_bad, is_utf8}
 use Rattle.property_value.specs.Column.{width_of, is_text}
 
@@ -14,9 +12,9 @@ unfoldable pub text_ok : ℕ → List ℕ → Bool
 text_ok kind text = cond (is_text kind) (is_utf8 text) true
 
 -- what the check of a text finds: its type allows it, or it does not, and the first bad byte stands at a place
-abbrev pub Checked : ℕ → List ℕ → Bad → Type 0
-Checked kind text Nowhere = text_ok kind text ≡ true
-Checked kind text (At place) = (text_ok kind text ≡ false) × (place ≡ first_bad text)
+abbrev pub Checked : ℕ → List ℕ → Option ℕ → Type 0
+Checked kind text None = text_ok kind text ≡ true
+Checked kind text (Some place) = (text_ok kind text ≡ false) × (place ≡ first_bad text)
 
 -- the place that goes with an answer (SPEC 9.13): that of the text's first bad byte with 6, and 0 with any other
 unfoldable pub placed : ℕ → ℕ → ℕ

@@ -1,10 +1,8 @@
 -- Laws of values.
-use Rattle.std.specs.Prelude.{◌≡◌, refl, Bool, true, false, cond, ◌||◌, List, ℕ, ◌^◌, ◌≤◌, ◌<◌, leb, ltb, eqb}
+use Rattle.std.specs.Prelude.{Option, Some, None, ◌≡◌, refl, Bool, true, false, cond, ◌||◌, List, ℕ, ◌^◌, ◌≤◌, ◌<◌, leb, ltb, eqb}
 use Rattle.std.proofs.Common.{sym, ap, ◌∙◌, arith, eqb-true, ltb-false, leb-false, le-leb, le-ltb, eq-eqb, ne_eqb}
 use Rattle.std.proofs.lemmas.Bool.{eqb-false, lt-leb}
 use Rattle.laws.specs.Every.{never, neither, fails}
-use Rattle.utf8.specs.declared.Bad.{Bad}
-use Rattle.utf8.specs.declared.Bad.TheVariants.{Nowhere, At}
 use Rattle.utf8.specs.Utf8.{first_bad, is_utf8, BadIs}
 use Rattle.utf8.specs.Meaning.{text_utf8, bad_first, at_bad}
 use Rattle.property_value.specs.Column.{width_of, is_text}
@@ -51,26 +49,26 @@ word_back kind bits h = go (eqb kind 2) refl (eqb bits 0) refl
 -- ---- a text
 
 -- one that is refused is of a type that is held to be UTF-8, and its first bad byte is where first_bad says
-pub text_fails : (kind : ℕ) (text : List ℕ) → text_ok kind text ≡ false → (is_text kind ≡ true) × BadIs text (At (first_bad text))
+pub text_fails : (kind : ℕ) (text : List ℕ) → text_ok kind text ≡ false → (is_text kind ≡ true) × BadIs text (Some (first_bad text))
 unfolding text_ok
 text_fails kind text e = go (is_text kind) refl e
   where
-    go : (t : Bool) → is_text kind ≡ t → cond t (is_utf8 text) true ≡ false → (is_text kind ≡ true) × BadIs text (At (first_bad text))
+    go : (t : Bool) → is_text kind ≡ t → cond t (is_utf8 text) true ≡ false → (is_text kind ≡ true) × BadIs text (Some (first_bad text))
     go true k e = (k, bad_first text e)
     go false k e = absurd (never (sym e))
 
 -- what is found of the bytes, by a type that is held to be UTF-8
-pub checked : (kind : ℕ) (text : List ℕ) (b : Bad) → is_text kind ≡ true → BadIs text b → Checked kind text b
+pub checked : (kind : ℕ) (text : List ℕ) (b : Option ℕ) → is_text kind ≡ true → BadIs text b → Checked kind text b
 unfolding text_ok
-checked kind text Nowhere k t = rw k (text_utf8 text t)
-checked kind text (At place) k t = rw k (at_bad text place t)
+checked kind text None k t = rw k (text_utf8 text t)
+checked kind text (Some place) k t = rw k (at_bad text place t)
 
 -- there is one such finding
-pub checked_once : (kind : ℕ) (text : List ℕ) (a b : Bad) → Checked kind text a → Checked kind text b → a ≡ b
-checked_once kind text Nowhere Nowhere h k = refl
-checked_once kind text Nowhere (At place) h k = absurd (never (sym k.0 ∙ h))
-checked_once kind text (At place) Nowhere h k = absurd (never (sym h.0 ∙ k))
-checked_once kind text (At place) (At other) h k = ap At (h.1 ∙ sym k.1)
+pub checked_once : (kind : ℕ) (text : List ℕ) (a b : Option ℕ) → Checked kind text a → Checked kind text b → a ≡ b
+checked_once kind text None None h k = refl
+checked_once kind text None (Some place) h k = absurd (never (sym k.0 ∙ h))
+checked_once kind text (Some place) None h k = absurd (never (sym h.0 ∙ k))
+checked_once kind text (Some place) (Some other) h k = ap Some (h.1 ∙ sym k.1)
 
 -- ---- a place
 

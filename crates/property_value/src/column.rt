@@ -1,27 +1,31 @@
 // Column types: how wide a number is, and which have a length first.
 ghost use Rattle.std.specs.Prelude.{◌≡◌};
-ghost use Rattle.property_value.specs.Column.{width_of, is_text};
+ghost use Rattle.kinds.specs.ColumnType.{type_number};
+ghost use Rattle.property_value.specs.Column.{WidthIs, is_text};
 
-use kinds::column_type;
+use kinds::column_type::ColumnType;
 
-// How many bytes a number has; 0 for the types that have a length first, and for no type.
-pub fn width(kind: u8) -> usize
-    ensures { result ≡ width_of kind }
+// How many bytes a number has, and none for the types that have a length first.
+#[tactic(auto, unfolding(crate::specs::Column::width_of))]
+pub fn width(kind: ColumnType) -> Option<usize>
+    ensures { WidthIs (type_number kind) result }
 {
     match kind {
-        column_type::BYTE..=column_type::BOOL => 1,
-        column_type::SHORT..=column_type::USHORT => 2,
-        column_type::INT..=column_type::UINT => 4,
-        column_type::LONG..=column_type::ULONG => 8,
-        column_type::FLOAT => 4,
-        column_type::DOUBLE => 8,
-        _ => 0,
+        ColumnType::Byte | ColumnType::UByte | ColumnType::Bool => Some(1),
+        ColumnType::Short | ColumnType::UShort => Some(2),
+        ColumnType::Int | ColumnType::UInt | ColumnType::Float => Some(4),
+        ColumnType::Long | ColumnType::ULong | ColumnType::Double => Some(8),
+        ColumnType::String | ColumnType::Json | ColumnType::DateTime | ColumnType::Binary => None,
     }
 }
 
 // Whether the bytes of a type's values are to be UTF-8.
-pub fn is_text(kind: u8) -> bool
-    ensures { result ≡ is_text kind }
+#[tactic(auto, unfolding(crate::specs::Column::is_text))]
+pub fn is_text(kind: ColumnType) -> bool
+    ensures { result ≡ is_text (type_number kind) }
 {
-    (column_type::STRING <= kind) & (kind <= column_type::DATE_TIME)
+    matches!(
+        kind,
+        ColumnType::String | ColumnType::Json | ColumnType::DateTime
+    )
 }

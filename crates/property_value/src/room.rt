@@ -6,9 +6,5 @@ use kinds::usable;
 pub fn usable_length(lent: usize) -> usize
     ensures { result ≡ min lent 65536 }
 {
-    if lent < usable::PROPERTY_BYTES {
-        lent
-    } else {
-        usable::PROPERTY_BYTES
-    }
+    lent.min(usable::PROPERTY_BYTES)
 }

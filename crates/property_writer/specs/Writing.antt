@@ -1,11 +1,16 @@
 -- Writing a property: its bytes, what is refused, and what a write answers and leaves: SPEC 9.1 to 9.5, in its order.
-use Rattle.std.specs.Prelude.{Bool, cond, not, List, ◌++◌, ℕ, ◌+◌, ◌^◌, ◌≤◌, ◌<◌, min, leb, ltb, eqb, length}
+use Rattle.std.specs.Prelude.{◌≡◌, Result, Bool, cond, not, List, ◌++◌, ℕ, ◌+◌, ◌^◌, ◌≤◌, ◌<◌, min, leb, ltb, eqb, length}
+use Rattle.std.proofs.Common.{Ok, Err}
 use Rattle.std.proofs.lemmas.List.Edits.{sets}
 use Rattle.laws.specs.Bytes.{le}
+use Rattle.kinds.specs.declared.column_type.ColumnType.{ColumnType}
+use Rattle.kinds.specs.ColumnType.{type_number}
+use Rattle.kinds.specs.Refusal.{number_of}
 use Rattle.utf8.specs.Utf8.{first_bad}
 use Rattle.property_value.specs.Column.{width_of}
 use Rattle.property_value.specs.Value.{malformed, text_ok, placed}
-use Rattle.property_writer.specs.declared.PropertyPut.{PropertyPut}
+use Rattle.property_value.specs.declared.refused.PropertyRefusal.{PropertyRefusal}
+use Rattle.property_value.specs.Refused.{refusal_of as refused_as, place_of, answer_of, answer_place}
 
 -- a text as bytes: a u32 length first
 unfoldable pub text_bytes : List ℕ → List ℕ
@@ -33,6 +38,20 @@ refusal_of waiting used column kind bits text lent =
 abbrev pub settled : {A : Type 0} → ℕ → A → A → A
 settled number written kept = cond (eqb number 0) written kept
 
+-- the answer's number, how many bytes of the buffer are used then, and the place of a bad byte
+pub record PropertyPut : Type 0 where
+  pub number : ℕ
+  pub used : ℕ
+  pub place : ℕ
+
+-- what the code answers: how many bytes are used then, or a refusal, which leaves what was used
+abbrev pub used_then : ℕ → Result ℕ PropertyRefusal → ℕ
+used_then used (Ok then) = then
+used_then used (Err refusal) = used
+
+abbrev pub put_as : ℕ → Result ℕ PropertyRefusal → PropertyPut
+put_as used answer = record { number = answer_of answer; used = used_then used answer; place = answer_place answer }
+
 -- what a write answers; the place is counted from the text's first byte
 unfoldable pub put_of : Bool → ℕ → ℕ → ℕ → ℕ → List ℕ → List ℕ → PropertyPut
 put_of waiting used column kind bits text buffer =
@@ -57,3 +76,10 @@ property_length kind text = 2 + cond (leb 11 kind) (4 + length text) (width_of k
 pub record Exact (kind bits : ℕ) (text : List ℕ) : Type 0 where
   pub number : kind ≤ 10 → bits < 256 ^ width_of kind
   pub count : 11 ≤ kind → length text < 256 ^ 4
+
+-- a property that is judged: the type that its kind is where it may be written, or the refusal, with its place
+abbrev pub Judged : Bool → ℕ → ℕ → ℕ → ℕ → List ℕ → ℕ → Result ColumnType PropertyRefusal → Type 0
+Judged waiting used column kind bits text lent (Ok type) = (refusal_of waiting used column kind bits text lent ≡ 0) × (type_number type ≡ kind)
+Judged waiting used column kind bits text lent (Err refusal) =
+    (number_of (refused_as refusal) ≡ refusal_of waiting used column kind bits text lent)
+    × (place_of refusal ≡ placed (refusal_of waiting used column kind bits text lent) (first_bad text))

@@ -1,7 +1,7 @@
 -- Laws of writing a property.
 use Rattle.std.specs.Prelude.{◌≡◌, Bool, not, List, ◌++◌, ℕ, suc, ◌+◌, ◌≤◌, ◌<◌, min, leb, ltb, take, drop}
 use Rattle.std.proofs.Math.Path.{refl}
-use Rattle.std.proofs.Common.{sym, ap, ◌∙◌, append_assoc, arith}
+use Rattle.std.proofs.Common.{Err, sym, ap, ◌∙◌, append_assoc, arith}
 use Rattle.std.proofs.Math.Bool.{true, false, cond}
 use Rattle.std.proofs.Math.Nat.{min-le_left, min-le_right, min-eq_right}
 use Rattle.std.proofs.Math.Dec.{eqb}
@@ -12,12 +12,14 @@ use borrow.Author.Tests.{eqb-true, ltb-false, le-leb, lt-leb, ne_eqb, not-false}
 use Rattle.laws.specs.Bytes.{le, length-le}
 use Rattle.laws.specs.Runs.{sets_split, take-sets, drop-sets}
 use Rattle.utf8.specs.Utf8.{first_bad}
+use Rattle.kinds.specs.Refusal.{number_of, refused as is_refusal}
+use Rattle.property_value.specs.declared.refused.PropertyRefusal.{PropertyRefusal}
+use Rattle.property_value.specs.Refused.{refusal_of as refused_as}
 use Rattle.property_value.specs.Column.{width_of}
 use Rattle.property_value.specs.ColumnLaws.{width_most}
 use Rattle.property_value.specs.Value.{malformed, text_ok, placed}
 use Rattle.property_value.specs.ValueLaws.{well_formed_lem}
-use Rattle.property_writer.specs.Writing.{text_bytes, laid_down, property_bytes, refusal_of, put_of, bytes_after, property_length, Exact}
-use Rattle.property_writer.specs.declared.PropertyPut.{PropertyPut}
+use Rattle.property_writer.specs.Writing.{text_bytes, laid_down, property_bytes, refusal_of, PropertyPut, put_as, put_of, bytes_after, property_length, Exact, Judged}
 
 -- ---- a property's bytes
 
@@ -100,6 +102,12 @@ unfolding put_of bytes_after
 refused waiting used column kind bits text buffer number e n =
     let stays : eqb number 0 ≡ false = ne_eqb number 0 n in
     (rw (← e, stays), rw (← e, stays))
+
+pub put-refused : (waiting : Bool) (used column kind bits : ℕ) (text buffer : List ℕ) (e : PropertyRefusal) → Judged waiting used column kind bits text (length buffer) (Err e) →
+    (put_as used (Err e) ≡ put_of waiting used column kind bits text buffer) × (buffer ≡ bytes_after waiting used column kind bits text buffer)
+put-refused waiting used column kind bits text buffer e judged =
+    let stays = refused waiting used column kind bits text buffer (number_of (refused_as e)) judged.0 (is_refusal (refused_as e)) in
+    (rw (judged.1, ← judged.0) stays.0, stays.1)
 
 module _ (waiting : Bool) (used column kind bits : ℕ) (text buffer : List ℕ) (done : refusal_of waiting used column kind bits text (length buffer) ≡ 0) where
   -- what is used grows by the property's bytes

@@ -1,9 +1,11 @@
-// The geometry reader on trees: a case of the list that oracle/lists/reader.py makes and lays out is a tree and readings of it, each of
-// which counts as a case of its own.
+//! The geometry reader on trees: a case of the list that oracle/lists/reader.py makes and lays out is a tree and readings of it, each of
+//! which counts as a case of its own.
 #![tactic(auto)]
 
-mod described;
+mod lists;
 mod readings;
+mod row;
 mod tree;
 
-pub use readings::read_tree;
+pub use readings::{Reading, read};
+pub use tree::{Tree, lay_tree};

@@ -1,109 +1,79 @@
-// A tree's readings, each into a log of its own length.
-use crate::{described, tree};
-use event_log::EVENT_BYTES;
-use kinds::answer::Answer;
-use replay::{Tally, bytes_from, difference, number, tally, unless};
+//! A tree's readings, each into a log of its own length.
+use crate::lists::{pool, same_bytes};
+use crate::tree::Tree;
+use event_log::{EVENT_BYTES, Events, Log};
+use kinds::flags::Flags;
+use kinds::refusal::answer_number;
+use replay::{Differences, Fields, Memory, so_many};
+use store::{Pools, Store};
 
-// Where the events of a tree are described, and where its readings stand.
-const EVENTS: usize = 23;
+#[derive(Clone, Copy)]
+pub struct Reading {
+    pub sort: u32,
+    log_length: usize,
+    number: u32,
+    count: usize,
+}
 
-const HOW_MANY: usize = 24;
+impl Reading {
+    pub fn new(fields: &mut Fields<'_>) -> Reading {
+        Reading {
+            sort: fields.number(),
+            log_length: fields.number() as usize,
+            number: fields.number(),
+            count: fields.number() as usize,
+        }
+    }
+}
 
-const READINGS: usize = 25;
-
-// Where the numbers of a reading stand.
-const SORT: usize = 0;
-
-const LOG_LENGTH: usize = 1;
-
-const NUMBER: usize = 2;
-
-const COUNT: usize = 3;
-
-const READING_NUMBERS: usize = 4;
+/// What differs in a reading of a tree that was laid down.
+pub fn read(tree: &Tree<'_>, reading: Reading, memory: &mut Memory) -> Differences {
+    let Some(log) = memory.bytes.as_mut_slice().get_mut(..reading.log_length) else {
+        return Differences::CASE;
+    };
+    replay::clear(log);
+    let (number, count) = read_tree(tree, &memory.table, &memory.words, &memory.ends, log);
+    Differences {
+        number: u32::from(number) != reading.number,
+        count: count != reading.count,
+        memory: !has_events(log, reading.count, tree.events),
+        ..Differences::NONE
+    }
+}
 
 // Whether a log of canaries has the tree's first events, so many, and is otherwise as it was. The records that were looked at are
 // canaries afterwards.
-fn has_events(log: &mut [u8], count: usize, case: &[u8]) -> bool {
+fn has_events(log: &mut [u8], count: usize, events: &[u8]) -> bool {
     if count > log.len() / EVENT_BYTES {
         return false;
     }
-    let said = EVENT_BYTES * count;
-    let same = described::same_bytes(&log[0..said], case, EVENTS);
-    replay::clear(&mut log[0..said]);
+    let said = &mut log[..EVENT_BYTES * count];
+    let same = same_bytes(said, events);
+    replay::clear(said);
     same & replay::is_clear(log)
 }
 
-fn unexpected(answer: Answer, reading: &[u8]) -> u8 {
-    unless(
-        answer.number as usize == number(reading, NUMBER),
-        difference::NUMBER,
-    ) | unless(answer.count == number(reading, COUNT), difference::COUNT)
-}
-
-fn read_to(
+// The number and the count that a reading of the tree answers. A pool that has no place is empty.
+fn read_tree(
+    tree: &Tree<'_>,
+    table: &[u8],
+    words: &[u64],
+    ends: &[u32],
     log: &mut [u8],
-    case: &[u8],
-    reading: &[u8],
-    table: &[u8],
-    words: &[u64],
-    ends: &[u32],
-) -> u8 {
-    replay::clear(log);
-    let differs = unexpected(tree::read(case, table, words, ends, log), reading);
-    differs
-        | unless(
-            has_events(log, number(reading, COUNT), case),
-            difference::MEMORY,
-        )
-}
-
-fn read(
-    case: &[u8],
-    reading: &[u8],
-    table: &[u8],
-    words: &[u64],
-    ends: &[u32],
-    memory: &mut [u8],
-) -> u8 {
-    let length = number(reading, LOG_LENGTH);
-    if length > memory.len() {
-        return difference::CASE;
-    }
-    read_to(&mut memory[0..length], case, reading, table, words, ends)
-}
-
-fn run_readings(
-    case: &[u8],
-    laid: bool,
-    table: &[u8],
-    words: &[u64],
-    ends: &[u32],
-    memory: &mut [u8],
-    tally: &mut Tally,
-) {
-    let readings = number(case, HOW_MANY);
-    let mut i = 0;
-    while i < readings {
-        let reading = bytes_from(case, READINGS + READING_NUMBERS * i);
-        let differs = read(case, reading, table, words, ends, memory);
-        tally::count(
-            tally,
-            number(reading, SORT),
-            differs | unless(laid, difference::CASE),
-        );
-        i += 1;
-    }
-}
-
-pub fn read_tree(
-    case: &[u8],
-    table: &mut [u8],
-    words: &mut [u64],
-    ends: &mut [u32],
-    memory: &mut [u8],
-    tally: &mut Tally,
-) {
-    let laid = tree::lay_tree(case, table, words, ends);
-    run_readings(case, laid, table, words, ends, memory, tally);
+) -> (u8, usize) {
+    let store = Store {
+        table: so_many(table, tree.table.count),
+        pools: Pools {
+            xy: pool(words, tree.xy).unwrap_or(&[]),
+            ends: so_many(ends, tree.ends.count),
+            z: pool(words, tree.z).unwrap_or(&[]),
+            m: pool(words, tree.m).unwrap_or(&[]),
+            t: pool(words, tree.t).unwrap_or(&[]),
+            tm: pool(words, tree.tm).unwrap_or(&[]),
+        },
+    };
+    let feature = tree.feature;
+    let mut log = Log::new(log, Events { feature });
+    let read = reader::read(&store, tree.declared, Flags::of(tree.flags), &mut log);
+    (answer_number(&read), log.count())
 }

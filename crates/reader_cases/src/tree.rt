@@ -1,76 +1,73 @@
-// The tree of a case: its table and its pools, and a reading of it.
-ghost use Rattle.std.specs.Prelude.{◌<◌};
+//! The tree of a case: its table and its pools.
+use crate::lists::{List, lay_bytes, lay_ends, lay_words};
+use replay::{Fields, Memory};
 
-use crate::described::{lay_bytes, lay_ends, lay_pool};
-use kinds::answer::Answer;
-use kinds::flags::Flags;
-use replay::{byte, first, number};
-
-// Where the numbers of a case stand. A pool of words has its place among all words; then, as the table and the ends, how many it has,
-// and where in the case it is described.
-const DECLARED: usize = 1;
-
-const FLAGS: usize = 2;
-
-const FEATURE: usize = 3;
-
-const TABLE: usize = 4;
-
-const ENDS: usize = 6;
-
-const XY: usize = 8;
-
-const Z: usize = 11;
-
-const M: usize = 14;
-
-const T: usize = 17;
-
-const TM: usize = 20;
-
-// Lays down the table and the pools, and says whether all have their memory.
-pub fn lay_tree(case: &[u8], table: &mut [u8], words: &mut [u64], ends: &mut [u32]) -> bool {
-    lay_bytes(table, case, TABLE) & lay_ends(ends, case, ENDS) & lay_pools(case, words)
+#[derive(Clone, Copy)]
+pub struct Tree<'a> {
+    pub declared: u8,
+    pub flags: u8,
+    pub feature: u32,
+    pub table: List<'a>,
+    pub ends: List<'a>,
+    pub xy: List<'a>,
+    pub z: List<'a>,
+    pub m: List<'a>,
+    pub t: List<'a>,
+    pub tm: List<'a>,
+    /// The description of its events.
+    pub events: &'a [u8],
 }
 
-fn lay_pools(case: &[u8], words: &mut [u64]) -> bool {
-    lay_pool(words, case, XY)
-        & lay_pool(words, case, Z)
-        & lay_pool(words, case, M)
-        & lay_pool(words, case, T)
-        & lay_pool(words, case, TM)
-}
-
-fn pool<'a>(words: &'a [u64], case: &[u8], k: usize) -> &'a [u64]
-    requires { k < 4294967296 }
-{
-    let start = number(case, k);
-    let end = start + number(case, k + 1);
-    if end > words.len() {
-        return &words[..0];
+impl<'a> Tree<'a> {
+    /// The tree of a case, in front of which its sort stands. Its readings are next, a number that says how many and then each.
+    pub fn new(case: &'a [u8], fields: &mut Fields<'a>) -> Tree<'a> {
+        Tree {
+            declared: fields.small_number(),
+            flags: fields.small_number(),
+            feature: fields.number(),
+            table: next_list(case, fields),
+            ends: next_list(case, fields),
+            xy: next_pool(case, fields),
+            z: next_pool(case, fields),
+            m: next_pool(case, fields),
+            t: next_pool(case, fields),
+            tm: next_pool(case, fields),
+            events: next_description(case, fields),
+        }
     }
-    &words[start..end]
 }
 
-fn so_many(ends: &[u32], n: usize) -> &[u32] {
-    if n > ends.len() {
-        return ends;
+// The description that stands where a number says, counted in numbers.
+fn next_description<'a>(case: &'a [u8], fields: &mut Fields<'a>) -> &'a [u8] {
+    let at = 4 * fields.number() as usize;
+    case.get(at..).unwrap_or(&[])
+}
+
+fn next_list<'a>(case: &'a [u8], fields: &mut Fields<'a>) -> List<'a> {
+    List {
+        place: 0,
+        count: fields.number() as usize,
+        description: next_description(case, fields),
     }
-    &ends[0..n]
 }
 
-pub fn read(case: &[u8], table: &[u8], words: &[u64], ends: &[u32], log: &mut [u8]) -> Answer {
-    reader::read(
-        first(table, number(case, TABLE)),
-        pool(words, case, XY),
-        so_many(ends, number(case, ENDS)),
-        pool(words, case, Z),
-        pool(words, case, M),
-        pool(words, case, T),
-        pool(words, case, TM),
-        byte(case, DECLARED),
-        Flags::of(byte(case, FLAGS)),
-        number(case, FEATURE) as u32,
-        log,
-    )
+// A pool has its place among all words, which stands before its count.
+fn next_pool<'a>(case: &'a [u8], fields: &mut Fields<'a>) -> List<'a> {
+    List {
+        place: fields.number() as usize,
+        count: fields.number() as usize,
+        description: next_description(case, fields),
+    }
+}
+
+/// Lays down the table and the pools, and says whether all have their memory.
+pub fn lay_tree(tree: &Tree<'_>, memory: &mut Memory) -> bool {
+    let words = memory.words.as_mut_slice();
+    lay_bytes(&mut memory.table, tree.table)
+        & lay_ends(&mut memory.ends, tree.ends)
+        & lay_words(words, tree.xy)
+        & lay_words(words, tree.z)
+        & lay_words(words, tree.m)
+        & lay_words(words, tree.t)
+        & lay_words(words, tree.tm)
 }

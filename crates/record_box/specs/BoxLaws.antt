@@ -1,13 +1,14 @@
 -- A box is a value that pairs widen, so a walk through shared records may skip what it has cleared: the answer is the plain recursion's.
-use Rattle.std.specs.Prelude.{◌≡◌, refl, List, [], ◌∷◌, ℕ, ◌≤◌, replicate}
-use Rattle.std.proofs.Common.{sym, subst, ◌∙◌, arith}
+use Rattle.std.specs.Prelude.{◌≡◌, Result, refl, List, [], ◌∷◌, ℕ, ◌≤◌, replicate}
+use Rattle.std.proofs.Common.{Ok, Err, sym, subst, ◌∙◌, arith}
 use Rattle.std.proofs.Math.Path.{ap}
 use Rattle.std.proofs.Math.Option.{Option, none}
-use Rattle.kinds.specs.declared.geometry.Lent.{Lent}
+use Rattle.kinds.specs.Refusal.{refused as number-refused}
+use Rattle.kinds.specs.declared.refusal.Refusal.{Refusal}
 use Rattle.store.specs.RecordLaws.{past-usable}
 use Rattle.store.specs.Lists.{Rec, Pools, lent_of, record_with, with_bad}
 use Rattle.tree_walk.specs.declared.Parts.{Parts}
-use Rattle.tree_walk.specs.Tree.{refused, found, parts, through}
+use Rattle.tree_walk.specs.Tree.{refused, went, found, parts, through}
 use Rattle.tree_walk.specs.Widen.{all, Growing, growing}
 use Rattle.tree_walk.specs.Memory.{Left, left, kept, uncounted}
 use Rattle.tree_walk.proofs.Remembers.{Agree, agrees, so_refused, so_went, none_marked}
@@ -15,9 +16,8 @@ use Rattle.tree_walk.specs.Records.{parts_in, parts_by, parts_lent, by_lent as p
 use Rattle.bbox.specs.declared.Box.{Box}
 use Rattle.bbox.specs.Box.{beginning, box_from, widen}
 use Rattle.bbox.specs.Again.{widen_met, widen_stays}
-use Rattle.record_box.specs.declared.Boxed.{Boxed}
-use Rattle.record_box.specs.Boxed.{own_xy, own_box, boxed, box_of}
-use Rattle.record_box.specs.Lent.{own_lent, by_lent as own-by-lent}
+use Rattle.record_box.specs.Boxed.{own_xy, own_box, boxed, boxed_of, box_of}
+use Rattle.record_box.specs.Lent.{Leaves, own_lent, by_lent as own-by-lent}
 
 -- ---- the pairs of a list
 unfoldable pairs_of : List ℕ → List (ℕ × ℕ)
@@ -49,29 +49,33 @@ pub past_box : (table : List ℕ) (P : Pools) (n : ℕ) → 4096 ≤ n → boxed
 past_box table P n h = bad_box (record_with table P) n (with_bad table P n (past-usable table (lent_of P) n h))
 
 -- ---- the answer, by what the walk with a memory left
-module _ (table : List ℕ) (P : Pools) (n : ℕ) {lent : Lent} (l : lent ≡ lent_of P) (r : Boxed) {first : Box} (q : first ≡ beginning) {m : List ℕ}
-    (h : kept uncounted (parts_lent table lent) (own_lent table lent P.xy) 16 n first (replicate 4096 17) 0 ≡ left r.number r.bbox m 0) where
+module _ (table : List ℕ) (P : Pools) (n : ℕ) where
   abbrev get : ℕ → Option Rec
   get = record_with table P
 
-  abbrev walk : (ℕ → Option Parts) → (ℕ → Box → Box) → Box → Left Box
-  walk records own b = kept uncounted records own 16 n b (replicate 4096 17) 0
+  abbrev walk : (ℕ → Option Parts) → (ℕ → Box → Box) → Box → List ℕ → Left Box
+  walk records own b marks = kept uncounted records own 16 n b marks 0
 
-  went_so : walk (parts_by get) (own_box get) beginning ≡ left r.number r.bbox m 0
-  went_so =
-      (λ i. walk (parts-by-lent table P i) (own-by-lent table P i) beginning)
-      ∙ ap (λ (k : Lent). walk (parts_lent table k) (own_lent table k P.xy) beginning) (sym l)
-      ∙ ap (walk (parts_lent table lent) (own_lent table lent P.xy)) (sym q) ∙ h
-
-  agreed : Agree (box_grows get) (parts_by get) (through (parts_by get) (own_box get) 16 n beginning) (walk (parts_by get) (own_box get) beginning)
+  agreed : Agree (box_grows get) (parts_by get) (through (parts_by get) (own_box get) 16 n beginning) (walk (parts_by get) (own_box get) beginning (replicate 4096 0))
   agreed =
-      agrees (box_grows get) (parts_by get) uncounted 16 n beginning (replicate 4096 17) 0 (omega arith)
-      (none_marked (box_grows get) (parts_by get) 17 4096 beginning refl)
+      agrees (box_grows get) (parts_by get) uncounted 16 n beginning (replicate 4096 0) 0 (omega arith)
+      (none_marked (box_grows get) (parts_by get) 0 4096 beginning refl)
 
-  pub refused_box : (r.number ≡ 0 → ⊥) → boxed (refused r.number) ≡ box_of get n
-  unfolding box_of
-  refused_box z = ap boxed (sym (so_refused (box_grows get) (parts_by get) agreed went_so z))
+  module _ {first : Box} (q : first ≡ beginning) {marks : List ℕ} (z : marks ≡ replicate 4096 0) where
+    module _ {c : ℕ} {b : Box} {m : List ℕ} (h : walk (parts_lent table (lent_of P)) (own_lent table (lent_of P) P.xy) first marks ≡ left c b m 0) where
+      went_so : walk (parts_by get) (own_box get) beginning (replicate 4096 0) ≡ left c b m 0
+      went_so =
+          (λ i. walk (parts-by-lent table P i) (own-by-lent table P i) beginning (replicate 4096 0))
+          ∙ sym (λ i. walk (parts_lent table (lent_of P)) (own_lent table (lent_of P) P.xy) (q i) (z i)) ∙ h
 
-  pub went_box : r.number ≡ 0 → r ≡ box_of get n
-  unfolding box_of
-  went_box z = ap (λ (c : ℕ). record { number = c; bbox = r.bbox }) z ∙ ap boxed (sym (so_went (box_grows get) (parts_by get) agreed went_so z))
+      refused_box : (c ≡ 0 → ⊥) → boxed (refused c) ≡ box_of get n
+      unfolding box_of
+      refused_box y = ap boxed (sym (so_refused (box_grows get) (parts_by get) agreed went_so y))
+
+      went_box : c ≡ 0 → boxed (went b) ≡ box_of get n
+      unfolding box_of
+      went_box y = ap boxed (sym (so_went (box_grows get) (parts_by get) agreed went_so y))
+
+    pub left_box : (r : Result Box Refusal) (m : List ℕ) → Leaves (walk (parts_lent table (lent_of P)) (own_lent table (lent_of P) P.xy) first marks) r m → boxed_of r ≡ box_of get n
+    left_box (Ok b) m h = went_box h refl
+    left_box (Err r) m h = refused_box h.1 (number-refused r)

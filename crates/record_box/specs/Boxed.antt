@@ -1,12 +1,19 @@
 -- SPEC 8.3, 8.4: the box of a record, by its number, over its own pairs and then each part's.
-use Rattle.std.specs.Prelude.{List, [], ℕ}
+use Rattle.std.specs.Prelude.{List, [], ℕ, Result}
+use Rattle.std.proofs.Common.{Ok, Err}
 use Rattle.std.proofs.Math.Option.{Option, none, some}
+use Rattle.kinds.specs.Refusal.{number_of}
+use Rattle.kinds.specs.declared.refusal.Refusal.{Refusal}
 use Rattle.store.specs.Lists.{Rec}
 use Rattle.tree_walk.specs.Tree.{Out, refused, went, through}
 use Rattle.tree_walk.specs.Records.{parts_by}
 use Rattle.bbox.specs.declared.Box.{Box}
 use Rattle.bbox.specs.Box.{beginning, box_from}
-use Rattle.record_box.specs.declared.Boxed.{Boxed}
+
+-- a number, 0 for done, and the box
+pub record Boxed : Type 0 where
+  pub number : ℕ
+  pub bbox : Box
 
 -- the words of a list; one that is absent has none
 abbrev pub words_of : Option (List ℕ) → List ℕ
@@ -30,3 +37,8 @@ boxed (went b) = record { number = 0; bbox = b }
 -- record n is level 1, and 16 is the last
 unfoldable pub box_of : (ℕ → Option Rec) → ℕ → Boxed
 box_of get n = boxed (through (parts_by get) (own_box get) 16 n beginning)
+
+-- the same of what the code answers, which has no box with a refusal
+abbrev pub boxed_of : Result Box Refusal → Boxed
+boxed_of (Ok b) = boxed (went b)
+boxed_of (Err r) = boxed (refused (number_of r))

@@ -5,10 +5,8 @@ use Rattle.std.specs.Float.Ieee.{of_bits, lt}
 use Rattle.store.specs.Lists.{Rec}
 use Rattle.tree_walk.specs.Tree.{parts, through}
 use Rattle.tree_walk.specs.Records.{parts_by}
--- gone
 use Rattle.bbox.specs.Box.{double, beginning, widen, box_from}
-use Rattle.record_box.specs.declared.Boxed.{Boxed}
-use Rattle.record_box.specs.Boxed.{own_box, box_of}
+use Rattle.record_box.specs.Boxed.{Boxed, own_box, box_of}
 
 -- the type is not looked at, not even one that no reading follows
 abbrev listed : Option (List ℕ) → Option (ℕ × ℕ) → Option Rec

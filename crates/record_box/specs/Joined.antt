@@ -14,8 +14,7 @@ use Rattle.tree_walk.specs.Records.{parts_from, parts_in, parts_by}
 use Rattle.bbox.specs.declared.Box.{Box}
 use Rattle.bbox.specs.Box.{beginning, box_from, widen, double, bits_of}
 use Rattle.bbox.specs.Laws.{Edges, never_nan, bits_tell}
-use Rattle.record_box.specs.declared.Boxed.{Boxed}
-use Rattle.record_box.specs.Boxed.{own_xy, own_box, boxed, box_of}
+use Rattle.record_box.specs.Boxed.{Boxed, own_xy, own_box, boxed, box_of}
 
 -- a list without an odd last word
 unfoldable pub whole_pairs : List ℕ → List ℕ

@@ -1,15 +1,18 @@
-// Fixed lists of cases, run from standard input: a program answers each case, and what differs is named and counted.
+//! Fixed lists of cases, run from standard input: a program answers each case, and what differs is named and counted.
 #![tactic(auto)]
 
-mod case;
-pub mod difference;
-mod input;
+mod canaries;
+mod differences;
+mod fields;
+mod frames;
 mod memory;
 mod packed;
-pub mod tally;
+mod program;
+mod tally;
 
-pub use case::{byte, bytes_from, first, lesser, number, past, word};
-pub use difference::unless;
-pub use input::{Next, next_case};
-pub use memory::{clear, clear_ends, clear_words, holds, is_clear, lay, lay_words};
+pub use canaries::{Canary, clear, holds, is_clear, lay};
+pub use differences::Differences;
+pub use fields::Fields;
+pub use memory::{Memory, so_many, so_many_mut};
+pub use program::{Program, run};
 pub use tally::Tally;

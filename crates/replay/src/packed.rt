@@ -1,55 +1,27 @@
-// Packed bytes: a zero has after it how many zeros it stands for; every other byte stands for itself.
-ghost use Rattle.std.specs.Prelude.{◌<◌, length};
-
-// How many bytes the one at a place stands for.
-fn count_at(room: &[u8], at: usize) -> u8
-    requires { at < length room.now }
-{
-    if room[at] != 0 {
-        return 1;
-    }
-    if at + 1 < room.len() {
-        return room[at + 1];
-    }
-    0
-}
-
-fn past_count(room: &[u8], at: usize) -> usize
-    requires { at < length room.now }
-    ensures { at < result }
-{
-    if room[at] == 0 {
-        if at + 1 < room.len() {
-            return at + 2;
+/// Unpacks what stands from a place on to the room's start, as far as it fits, and says how long it is: a zero has after it how many zeros
+/// it stands for, and every other byte stands for itself. Bytes that the unpacked ones reach before they are read are read as those.
+pub fn unpack(room: &mut [u8], from: usize) -> usize {
+    let mut length = 0;
+    let mut counts_zeros = false;
+    for at in from..room.len() {
+        let byte = room[at];
+        if counts_zeros {
+            length = put_run(room, length, 0, byte);
+            counts_zeros = false;
+        } else if byte == 0 {
+            counts_zeros = true;
+        } else {
+            length = put_run(room, length, byte, 1);
         }
     }
-    at + 1
+    length
 }
 
 // Puts a byte down so often, as far as it fits, and says where it ends.
 fn put_run(room: &mut [u8], at: usize, byte: u8, count: u8) -> usize {
-    let mut to = at;
-    let mut left = count;
-    while left > 0 {
-        if to >= room.len() {
-            return to;
-        }
-        room[to] = byte;
-        to += 1;
-        left -= 1;
+    let end = at.saturating_add(usize::from(count)).min(room.len());
+    if let Some(run) = room.get_mut(at..end) {
+        run.fill(byte);
     }
-    to
-}
-
-// Unpacks what stands from a place on to the room's start, and says how long it is. What is packed stands far enough behind.
-pub fn unpack(room: &mut [u8], from: usize) -> usize {
-    let mut at = from;
-    let mut unpacked: usize = 0;
-    while at < room.len() {
-        let byte = room[at];
-        let count = count_at(room, at);
-        at = past_count(room, at);
-        unpacked = put_run(room, unpacked, byte, count);
-    }
-    unpacked
+    end
 }

@@ -1,39 +1,24 @@
 // The box of a feature.
-use bbox::{Box, edge_bits};
-use console::{end_line, say, say_double, say_refusal};
-use kinds::refusal;
-use record_box::Boxed;
+use console::{Double, Refused};
+use job_calls::Edges;
+use std::io;
 
-// A box that no pair moved.
-fn is_empty(around: Box) -> bool {
-    !(around.least_x <= around.greatest_x) & !(around.least_y <= around.greatest_y)
+fn write_edges<W: io::Write>(out: &mut W, edges: Edges) -> io::Result<()> {
+    let least_x = Double(edges.least_x);
+    let least_y = Double(edges.least_y);
+    let greatest_x = Double(edges.greatest_x);
+    let greatest_y = Double(edges.greatest_y);
+    writeln!(
+        out,
+        "x {least_x} to {greatest_x}, y {least_y} to {greatest_y}"
+    )
 }
 
-fn say_edges(name: &[u8], least: f64, greatest: f64) {
-    say(name);
-    say_double(edge_bits(least));
-    say(b" to ");
-    say_double(edge_bits(greatest));
-}
-
-fn say_box(around: Box) {
-    if is_empty(around) {
-        return say(b"around nothing");
+pub fn show_box<W: io::Write>(out: &mut W, edges: Result<Edges, Refused>) -> io::Result<()> {
+    write!(out, "  box: ")?;
+    match edges {
+        Err(refused) => writeln!(out, "{refused}"),
+        Ok(edges) if edges == Edges::NOTHING => writeln!(out, "around nothing"),
+        Ok(edges) => write_edges(out, edges),
     }
-    say_edges(b"x ", around.least_x, around.greatest_x);
-    say_edges(b", y ", around.least_y, around.greatest_y);
-}
-
-fn say_boxed(boxed: Boxed) {
-    if boxed.number != refusal::DONE {
-        return say_refusal(boxed.number);
-    }
-    let around = boxed.bbox;
-    say_box(around);
-}
-
-pub fn show_box(boxed: Boxed) {
-    say(b"  box: ");
-    say_boxed(boxed);
-    end_line();
 }

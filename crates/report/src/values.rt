@@ -1,93 +1,107 @@
 // The properties of a feature, read back from its property bytes.
-ghost use Rattle.std.specs.Prelude.{◌≡◌, length};
-
-use crate::names::say_name;
-use console::{
-    end_line, say, say_bytes, say_column_type, say_double, say_float, say_number, say_signed,
-    say_text,
-};
+use crate::names::write_name;
+use compared::same;
+use console::{Double, Float, Hex, Refused, column_type_name, write_text};
 use event_log::VALUE_BYTES;
+use job_file::Columns;
 use kinds::column_type;
 use kinds::value::Value;
 use numbers::{u16_at, u32_at, u64_at};
+use std::io;
 
-fn value_of(bytes: &[u8]) -> Value
-    requires { length bytes.now ≡ 16 }
-{
+fn value_of(record: &[u8; VALUE_BYTES]) -> Value {
     Value {
-        column: u16_at(bytes, 0),
-        kind: bytes[2],
-        len: u32_at(bytes, 4),
-        word: u64_at(bytes, 8),
+        column: u16_at(record, 0),
+        kind: record[2],
+        len: u32_at(record, 4),
+        word: u64_at(record, 8),
     }
 }
 
-fn say_yes_or_no(word: u64) {
-    if word == 0 {
-        say(b"no");
-    } else {
-        say(b"yes");
-    }
-}
-
-fn say_plain(kind: u8, word: u64) {
+fn write_number<W: io::Write>(out: &mut W, kind: u8, word: u64) -> io::Result<()> {
     match kind {
-        column_type::BOOL => say_yes_or_no(word),
-        column_type::BYTE => say_signed(word, 0x80),
-        column_type::SHORT => say_signed(word, 0x8000),
-        column_type::INT => say_signed(word, 0x8000_0000),
-        column_type::LONG => say_signed(word, 0x8000_0000_0000_0000),
-        column_type::FLOAT => say_float((word % 4294967296) as u32),
-        column_type::DOUBLE => say_double(word),
-        _ => say_number(word),
+        column_type::BOOL => write!(out, "{}", if word == 0 { "no" } else { "yes" }),
+        column_type::BYTE => write!(out, "{}", ((word & 0xff) as u8).cast_signed()),
+        column_type::SHORT => write!(out, "{}", ((word & 0xffff) as u16).cast_signed()),
+        column_type::INT => write!(out, "{}", ((word & 0xffff_ffff) as u32).cast_signed()),
+        column_type::LONG => write!(out, "{}", word.cast_signed()),
+        column_type::FLOAT => write!(out, "{}", Float((word & 0xffff_ffff) as u32)),
+        column_type::DOUBLE => write!(out, "{}", Double(word)),
+        _ => write!(out, "{word}"),
     }
-}
-
-fn say_stretch(kind: u8, stretch: &[u8]) {
-    if kind == column_type::BINARY {
-        return say_bytes(stretch);
-    }
-    say_text(stretch);
 }
 
 // What has a length stands in the property bytes.
-fn say_long(v: Value, bytes: &[u8]) {
-    let length = v.len as usize;
-    if length > bytes.len() {
-        return;
-    }
-    if v.word > (bytes.len() - length) as u64 {
-        return;
-    }
-    let start = v.word as usize;
-    let end = start + length;
-    say_stretch(v.kind, &bytes[start..end]);
+fn bytes_of(value: Value, bytes: &[u8]) -> Option<&[u8]> {
+    let start = value.word as usize;
+    let end = start.checked_add(value.len as usize)?;
+    bytes.get(start..end)
 }
 
-fn say_value(v: Value, bytes: &[u8]) {
-    if v.kind < column_type::STRING {
-        return say_plain(v.kind, v.word);
+fn write_bytes<W: io::Write>(out: &mut W, kind: u8, bytes: &[u8]) -> io::Result<()> {
+    if kind == column_type::BINARY {
+        return write!(out, "{}", Hex(bytes));
     }
-    say_long(v, bytes);
+    write_text(out, bytes)
 }
 
-fn show_value(v: Value, bytes: &[u8], columns: &[u8]) {
-    say(b"  ");
-    say_name(columns, v.column);
-    say(b" (");
-    say_column_type(v.kind);
-    say(b"): ");
-    say_value(v, bytes);
-    end_line();
+fn write_value<W: io::Write>(out: &mut W, value: Value, bytes: &[u8]) -> io::Result<()> {
+    if value.kind < column_type::STRING {
+        return write_number(out, value.kind, value.word);
+    }
+    match bytes_of(value, bytes) {
+        Some(stretch) => write_bytes(out, value.kind, stretch),
+        None => Ok(()),
+    }
 }
 
-pub fn show_values(values: &[u8], bytes: &[u8], columns: &[u8]) {
-    let count = values.len() / VALUE_BYTES;
-    let mut i = 0;
-    while i < count {
-        let from = VALUE_BYTES * i;
-        let end = from + VALUE_BYTES;
-        show_value(value_of(&values[from..end]), bytes, columns);
-        i += 1;
+fn show_value<W: io::Write>(
+    out: &mut W,
+    value: Value,
+    bytes: &[u8],
+    columns: &Columns,
+) -> io::Result<()> {
+    write!(out, "  ")?;
+    write_name(out, columns, value.column)?;
+    write!(out, " ({}): ", column_type_name(value.kind))?;
+    write_value(out, value, bytes)?;
+    writeln!(out, "")
+}
+
+// Compares the values that were read back with those that were given, and shows them.
+fn show_values<W: io::Write>(
+    out: &mut W,
+    given: &[u8],
+    read: &[u8],
+    bytes: &[u8],
+    columns: &Columns,
+) -> io::Result<()> {
+    if !same(given, read) {
+        writeln!(out, "  the properties COME BACK DIFFERENT:")?;
+    }
+    for record in read.chunks_exact(VALUE_BYTES) {
+        if let Some(record) = record.first_chunk::<VALUE_BYTES>() {
+            show_value(out, value_of(record), bytes, columns)?;
+        }
+    }
+    Ok(())
+}
+
+// So many values of the log were read back from the property bytes.
+pub fn show_properties<W: io::Write>(
+    out: &mut W,
+    read: Result<usize, Refused>,
+    given: &[u8],
+    log: &[u8],
+    bytes: &[u8],
+    columns: &Columns,
+) -> io::Result<()> {
+    match read {
+        Err(refused) => writeln!(out, "  no properties, reading them back is {refused}"),
+        Ok(count) => {
+            let end = count.saturating_mul(VALUE_BYTES);
+            let read = log.get(..end).unwrap_or(log);
+            show_values(out, given, read, bytes, columns)
+        }
     }
 }

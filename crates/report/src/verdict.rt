@@ -1,67 +1,84 @@
 // Whether a feature came back as it went in.
-use crate::row::first_events;
+use crate::feature::Feature;
 use compared::{comes_back, common};
-use console::{end_line, say, say_count, say_record, say_refusal};
+use console::{Record, write_map};
 use event_log::EVENT_BYTES;
-use kinds::answer::Answer;
-use kinds::{geometry_type, refusal};
+use job_calls::Unread;
+use std::io;
 
-// So many events of a feature are kept to be compared.
-pub const KEPT: usize = 16384;
-
-// An event of a row, as far as it has it.
-fn say_nth(events: &[u8], n: usize) {
-    if n >= events.len() / EVENT_BYTES {
-        return say(b"nothing");
-    }
-    let from = EVENT_BYTES * n;
-    let end = from + EVENT_BYTES;
-    say_record(&events[from..end], geometry_type::UNKNOWN);
+// The first records of a row, as far as it has them.
+fn first_records(row: &[u8], count: usize) -> &[u8] {
+    let end = count.saturating_mul(EVENT_BYTES);
+    row.get(..end).unwrap_or(row)
 }
 
-fn say_difference(sent: &[u8], back: &[u8]) {
+fn write_nth<W: io::Write>(out: &mut W, records: &[u8], n: usize) -> io::Result<()> {
+    match records.chunks_exact(EVENT_BYTES).nth(n) {
+        Some(record) => write!(out, "{}", Record(record)),
+        None => write!(out, "nothing"),
+    }
+}
+
+fn write_difference<W: io::Write>(out: &mut W, sent: &[u8], back: &[u8]) -> io::Result<()> {
     let n = common(sent, back) / EVENT_BYTES;
-    say(b": COMES BACK DIFFERENT from event ");
-    say_count(n + 1);
-    say(b" on\n  went in:   ");
-    say_nth(sent, n);
-    say(b"\n  came back: ");
-    say_nth(back, n);
-    say(b"\n  what came back, which is NOT what went in:\n");
+    writeln!(out, ": COMES BACK DIFFERENT from event {} on", n + 1)?;
+    write!(out, "  went in:   ")?;
+    write_nth(out, sent, n)?;
+    write!(out, "\n  came back: ")?;
+    write_nth(out, back, n)?;
+    writeln!(out, "\n  what came back, which is NOT what went in:")
 }
 
-// So many events were given, and so many read back. What is said follows from the comparison alone.
-fn say_compared(events: usize, count: usize, sent: &[u8], log: &[u8]) {
-    if comes_back(events, count, sent, log) {
-        return say(b": comes back as it went in\n");
+// What is said follows from the comparison alone.
+fn write_compared<W: io::Write>(
+    out: &mut W,
+    feature: Feature,
+    count: usize,
+    sent: &[u8],
+    log: &[u8],
+) -> io::Result<()> {
+    if comes_back(feature.events, count, sent, log) {
+        return writeln!(out, ": comes back as it went in");
     }
-    say_difference(first_events(sent, events), first_events(log, count));
+    write_difference(
+        out,
+        first_records(sent, feature.events),
+        first_records(log, count),
+    )
 }
 
-fn say_last(back: &[u8], count: usize) {
-    if count == 0 {
-        return;
+fn write_unread<W: io::Write>(out: &mut W, unread: Unread, log: &[u8]) -> io::Result<()> {
+    let refused = unread.refused;
+    let count = unread.count;
+    write!(
+        out,
+        ": no map, reading it back is {refused}, after {count} events"
+    )?;
+    if count > 0 {
+        write!(out, ", the last: ")?;
+        write_nth(out, first_records(log, count), count - 1)?;
     }
-    say(b", the last: ");
-    say_nth(back, count - 1);
+    writeln!(out, "")
 }
 
-fn say_unread(answer: Answer, back: &[u8]) {
-    say(b": no map, reading it back is ");
-    say_refusal(answer.number);
-    say(b", after ");
-    say_count(answer.count);
-    say(b" events");
-    say_last(back, answer.count);
-    end_line();
-}
-
-// Answers whether there is a map to show.
-pub fn say_verdict(answer: Answer, events: usize, sent: &[u8], log: &[u8]) -> bool {
-    if answer.number == refusal::DONE {
-        say_compared(events, answer.count, sent, log);
-        return true;
+// Compares what was read back to the log with what was sent, and shows it. Answers whether there is a map of it.
+pub fn show_geometry<W: io::Write>(
+    out: &mut W,
+    feature: Feature,
+    read: Result<usize, Unread>,
+    sent: &[u8],
+    log: &[u8],
+) -> io::Result<bool> {
+    write!(out, "{feature}")?;
+    match read {
+        Ok(count) => {
+            write_compared(out, feature, count, sent, log)?;
+            write_map(out, first_records(log, count))?;
+            Ok(true)
+        }
+        Err(unread) => {
+            write_unread(out, unread, log)?;
+            Ok(false)
+        }
     }
-    say_unread(answer, first_events(log, answer.count));
-    false
 }

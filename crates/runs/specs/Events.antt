@@ -5,19 +5,29 @@ use Rattle.std.proofs.Common.{sym, ap, ◌∙◌, eqb-true, eq-eqb, ne_eqb}
 use Prim.Native.Nat.{ℕ, zero, suc, ◌+◌}
 use Rattle.laws.specs.Cond.{if_so, if_not}
 use Rattle.event_log.specs.Log.{record_of, records_in}
-use Rattle.runs.specs.declared.took.Took.{Took}
+use Rattle.kinds.specs.Refusal.{answer_of}
+use Rattle.runs.specs.declared.took.Took.{Took as Came}
 use Rattle.writing.specs.declared.state.State.{State}
-use Rattle.writing.specs.declared.state.Wrote.{Wrote}
-use Rattle.writing.specs.State.{Mem, Outcome, outcome}
+use Rattle.writing.specs.State.{Wrote, Mem, Outcome, outcome}
 use Rattle.writing.specs.Calls.{event_call}
 
--- ---- what a call comes to: answer, records taken, state, and the final contents of all lent memory
+-- ---- what a call comes to: answer, records taken, state,
+pub record Took : Type 0 where
+  pub number : ℕ
+  pub taken : ℕ
+  pub state : State
+
+-- and the final contents of all lent memory
 pub record Progress : Type 0 where
   pub took : Took
   pub mem : Mem
 
 abbrev pub took : ℕ → ℕ → State → Took
 took number taken s = record { number = number; taken = taken; state = s }
+
+-- of what the code answers
+abbrev pub took_of : Came → Took
+took_of r = took (answer_of r.answer) r.taken r.state
 
 abbrev pub progress : Took → Mem → Progress
 progress r k = record { took = r; mem = k }

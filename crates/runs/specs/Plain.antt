@@ -1,5 +1,5 @@
 -- A plain event: it changes no typing and finishes no part. Plain are a pair, a coordinate, and a begin that sets no type.
-use Rattle.std.specs.Prelude.{◌≡◌, Bool, not, ◌&&◌, List, ℕ, ◌≤◌, leb, ltb}
+use Rattle.std.specs.Prelude.{◌≡◌, Bool, not, ◌&&◌, List, ℕ, ◌≤◌, leb, ltb, Some}
 use Rattle.std.proofs.Math.Path.{refl, ap}
 use Rattle.std.proofs.Common.{sym, ◌∙◌, arith, leb-true, ltb-false, le-ltb, ne_eqb}
 use Rattle.std.proofs.Math.Bool.{true, false, cond}
@@ -7,26 +7,23 @@ use Rattle.laws.specs.Cond.{if_so, if_not}
 use Rattle.laws.specs.Every.{never, both}
 use Rattle.kinds.specs.Event.{WellFormed, is_tagged_type}
 use Rattle.kinds.specs.declared.event.Event.{Event}
-use Rattle.kinds.specs.declared.geometry.Lent.{Lent}
+use Rattle.kinds.specs.Lanes.{Lent}
 use Rattle.event_log.specs.Log.{heard}
 use Rattle.event_log.specs.LogLaws.{HeardPair, HeardCoordinate, HeardQuiet}
-use Rattle.asking.specs.declared.ask.Added.{Added}
+use Rattle.asking.specs.Ask.{Added, ask, no_words, pair_with, begun, ask_of}
 use Rattle.asking.specs.declared.ask.Ask.{Ask}
-use Rattle.asking.specs.declared.set_type.Typed.{Typed}
-use Rattle.asking.specs.declared.set_type.Typed.TheVariants.{Set}
+use Rattle.asking.specs.SetType.{Typed}
 use Rattle.writing.specs.declared.state.State.{State}
-use Rattle.writing.specs.declared.feature.Feature.TheVariants.{Numbered}
-use Rattle.pending.specs.declared.words.Pending.{Pending}
+use Rattle.pending.specs.Words.{Pending}
 use Rattle.writing.specs.Feature.{belongs}
 use Rattle.writing.specs.State.{with_feature, with_pending, records_used, wrote}
-use Rattle.asking.specs.Ask.{ask, no_words, pair_with, begun, ask_of}
 use Rattle.pending.specs.Room.{has_room}
 use Rattle.writing.specs.Calls.{is_ready, room_or, state_after, if_due, decide_event}
 use Rattle.pending.specs.Growth.{grown_all}
 
 -- what it asks for
 abbrev pub plain : State → Added → Ask
-plain s added = ask (Set s.typing) added false
+plain s added = ask (Some s.typing) added false
 
 -- why an event is refused, where own says whether it is of the feature in hand: it is not its turn, it is of another feature, or there is no room
 abbrev pub blocked_by : Bool → Bool → ℕ
@@ -43,7 +40,7 @@ blocked_number s n = blocked_by s.waiting (belongs s.feature n)
 
 -- a state amid a run: the feature of this number is in hand and these words are pending, and all else stays
 abbrev pub amid : State → ℕ → Pending → State
-amid s held p = with_pending (with_feature s (Numbered held)) p
+amid s held p = with_pending (with_feature s (Some held)) p
 
 -- ---- bytes that are an event which asks, in every state, for such words and no more
 pub record PlainEvent (bytes : List ℕ) (added : Added) (e : Event) : Type 0 where

@@ -1,35 +1,33 @@
 -- A run of plain events: where a writer is ready, each is held to one number, and asks for room in the pools that it adds to and for nothing else.
 use Rattle.std.specs.Prelude.{◌≡◌, Bool, ◌&&◌, List, [], ◌∷◌, ℕ, suc, ◌+◌, ◌-◌, ◌*◌, ◌/◌, ◌≤◌, ◌<◌, eqb, length, take, drop}
 use Rattle.std.proofs.Math.Path.{refl, sym, ap}
-use Rattle.std.proofs.Common.{◌∙◌, arith, eqb-true, ne_eqb}
+use Rattle.std.proofs.Common.{subst, ◌∙◌, arith, eqb-true, ne_eqb}
 use Rattle.std.proofs.Math.Bool.{true, false, cond}
 use Rattle.std.proofs.lemmas.List.Edits.{sets}
 use Rattle.std.proofs.Math.Seq.{length-sets}
 use Rattle.laws.specs.Every.{both}
 use Rattle.kinds.specs.LaneLaws.{by_lane}
 use Rattle.kinds.specs.Event.{WellFormed, Malformed}
-use Rattle.kinds.specs.Lanes.{xyL, endsL, zL, mL, tL, tmL}
+use Rattle.kinds.specs.Lanes.{xyL, endsL, zL, mL, tL, tmL, Lent}
 use Rattle.kinds.specs.declared.event.Event.{Event}
-use Rattle.kinds.specs.declared.geometry.Lent.{Lent}
 use Rattle.store.specs.Lists.{pools_of, lent_of}
 use Rattle.event_log.specs.Log.{heard, feature_in, record_of, records_in}
 use Rattle.event_log.specs.LogLaws.{HeardPair, HeardCoordinate, HeardQuiet}
 use Rattle.store.specs.Records.{records_lent}
-use Rattle.asking.specs.declared.ask.Added.{Added}
+use Rattle.asking.specs.Ask.{Added, no_words, pair_with}
 use Rattle.runs.specs.declared.run.Reached.{Reached}
 use Rattle.runs.specs.declared.run.Stop.{Stop}
 use Rattle.runs.specs.declared.run.Stop.TheVariants.{End, Blocked, Other, Malformed as Unheard}
-use Rattle.pending.specs.declared.words.Pending.{Pending}
+use Rattle.pending.specs.Words.{Pending, words, used}
 use Rattle.writing.specs.declared.state.State.{State}
 use Rattle.pending.specs.declared.words.Words.{Words}
-use Rattle.writing.specs.declared.state.Wrote.{Wrote}
-use Rattle.pending.specs.Words.{words, used}
+use Rattle.writing.specs.State.{Wrote, records_used, Mem, mem_of, Outcome, outcome, settled, wrote}
 use Rattle.writing.specs.Feature.{belongs}
-use Rattle.writing.specs.State.{records_used, Mem, mem_of, Outcome, outcome, settled, wrote}
-use Rattle.asking.specs.Ask.{no_words, pair_with}
 use Rattle.pending.specs.Room.{room_in, has_room, and_true, room_tested, room_apart, ValuesFit, room_in_lem}
 use Rattle.writing.specs.Calls.{is_ready, table_after, mem_after, event_with, event_call}
 use Rattle.pending.specs.Growth.{grown, grown_all, grown_values}
+use Rattle.pools.specs.declared.pools_mut.PoolsMut.{PoolsMut}
+use Rattle.pools.specs.PoolsMut.{SamePools}
 use Rattle.writing.specs.Ends.{well_formed_lem, another_feature}
 use Rattle.runs.specs.Events.{events_from, went_on}
 use Rattle.runs.specs.Plain.{blocked_by, blocked_refuses, blocked_number, amid, PlainEvent, pair-plain, coordinate-plain, quiet_plain, plain_decides}
@@ -46,6 +44,14 @@ pub record Values : Type 0 where
 
 abbrev pub values_of : List ℕ → List ℕ → List ℕ → List ℕ → List ℕ → Values
 values_of xy z m t tm = record { xy = xy; z = z; m = m; t = t; tm = tm }
+
+abbrev pub values_in : PoolsMut → Values
+values_in p = values_of p.xy.now p.z.now p.m.now p.t.now p.tm.now
+
+-- the same slices, and the ends as they were
+pub record Beside (before after : PoolsMut) : Type 0 where
+  pub slices : SamePools before after
+  pub ends : after.ends.now ≡ before.ends.now
 
 abbrev pub mem_with : List ℕ → List ℕ → Values → Mem
 mem_with table ends v = mem_of table v.xy ends v.z v.m v.t v.tm
@@ -75,6 +81,10 @@ values_room p a xy z m t tm =
     && room_in (used p.m + cond a.m 1 0) m 65536
     && room_in (used p.t + cond a.t 1 0) t 65536
     && room_in (used p.tm + cond a.tm 1 0) tm 65536
+
+-- in pools that hold such values
+abbrev pub lent_values : Values → Pending → Added → Bool
+lent_values v p a = values_room p a (length v.xy) (length v.z) (length v.m) (length v.t) (length v.tm)
 
 -- room for a pair
 abbrev pub pair_room : Pending → ℕ → Bool
@@ -202,6 +212,10 @@ Stopped bytes ready held taken p v Unheard = (taken < length bytes / 64) × (hea
 pub record Ran (bytes : List ℕ) (ready : Bool) (held from : ℕ) (p : Pending) (v : Values) (r : Reached) (v' : Values) : Type 0 where
   pub run : Run bytes ready held from p v r.taken r.pending v'
   pub stop : Stopped bytes ready held r.taken r.pending v' r.stop
+
+-- with the reason known
+pub stopped_by : {bytes : List ℕ} {ready : Bool} {held from : ℕ} {p : Pending} {v : Values} {r : Reached} {v' : Values} {stop : Stop} → Ran bytes ready held from p v r v' → r.stop ≡ stop → Stopped bytes ready held r.taken r.pending v' stop
+stopped_by {bytes} {ready} {held} {r = r} {v' = v'} ran is = subst (λ (x : Stop). Stopped bytes ready held r.taken r.pending v' x) is ran.stop
 
 pub none_taken : (bytes : List ℕ) (ready : Bool) (held from : ℕ) (p : Pending) (v : Values) → from ≤ length bytes / 64 → Run bytes ready held from p v from p v
 none_taken bytes ready held from p v within =

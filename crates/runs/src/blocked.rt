@@ -1,20 +1,19 @@
 // An event that is blocked.
 ghost use Rattle.std.specs.Prelude.{◌≡◌};
+ghost use Rattle.kinds.specs.Refusal.{number_of};
 ghost use Rattle.runs.specs.Plain.{blocked_by};
 
-use kinds::refusal;
+use kinds::refusal::Refusal;
 
-// Why an event is refused, where `own` says whether it is of the feature in hand: it is not its turn, it is of another feature, or there
-// is no room.
-pub fn blocked_number(waiting: bool, own: bool) -> u8
-    ensures { result ≡ blocked_by waiting own }
+// Why an event is refused, where `own` says whether it is of the feature in hand.
+pub fn why_blocked(waiting: bool, own: bool) -> Refusal
+    ensures { number_of result ≡ blocked_by waiting own }
 {
     if waiting {
-        return refusal::NOT_ITS_TURN;
-    }
-    if own {
-        refusal::NO_ROOM
+        Refusal::NotItsTurn
+    } else if own {
+        Refusal::NoRoom
     } else {
-        refusal::OTHER_FEATURE
+        Refusal::OtherFeature
     }
 }

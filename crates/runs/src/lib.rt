@@ -7,6 +7,6 @@ mod run;
 mod took;
 
 pub use alone::take_alone;
-pub use blocked::blocked_number;
+pub use blocked::why_blocked;
 pub use run::{Reached, Stop, take_plain};
 pub use took::Took;

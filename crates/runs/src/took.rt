@@ -1,10 +1,11 @@
 // How far a call with many events came.
+use kinds::refusal::Refusal;
 use writing::state::State;
 
-// What a call answers: the number, 0 for done, how many records it took, and the state after the last of them.
+// How many records a call took, the state after the last of them, and why it took no more.
 #[derive(Clone, Copy)]
 pub struct Took {
-    pub number: u8,
     pub taken: usize,
     pub state: State,
+    pub answer: Result<(), Refusal>,
 }

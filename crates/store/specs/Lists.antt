@@ -1,14 +1,12 @@
 -- A record with its lists: what stands in the pools where its stretches say.
-use Rattle.std.specs.Prelude.{◌≡◌, List, ℕ, ◌+◌, ◌≤◌, length, take, drop}
+use Rattle.std.specs.Prelude.{◌≡◌, List, ℕ, ◌+◌, ◌≤◌, length, take, drop, Some, None}
 use Rattle.std.proofs.Math.Option.{Option, none, some}
 use Rattle.std.proofs.Common.{arith, length-drop, length-take-le}
+use Rattle.kinds.specs.Geometry.{Span}
+use Rattle.kinds.specs.Lanes.{Lent}
 use Rattle.kinds.specs.declared.geometry.Geometry.{Geometry}
-use Rattle.kinds.specs.declared.geometry.Lent.{Lent}
-use Rattle.kinds.specs.declared.geometry.Span.{Span}
-use Rattle.kinds.specs.declared.geometry.Span.TheVariants.{Absent, Stretch}
-use Rattle.kinds.specs.declared.geometry.Judged.{Judged}
-use Rattle.kinds.specs.declared.geometry.Judged.TheVariants.{Good, Bad}
-use Rattle.store.specs.Records.{record_at}
+use Rattle.store.specs.declared.pools.Pools.{Pools as LentPools}
+use Rattle.store.specs.Records.{Judged, record_at}
 
 -- the words of the six pools
 pub record Pools : Type 0 where
@@ -21,6 +19,10 @@ pub record Pools : Type 0 where
 
 abbrev pub pools_of : List ℕ → List ℕ → List ℕ → List ℕ → List ℕ → List ℕ → Pools
 pools_of xy ends z m t tm = record { xy = xy; ends = ends; z = z; m = m; t = t; tm = tm }
+
+-- the words that a program's pools are lent with
+abbrev pub pools_in : LentPools → Pools
+pools_in p = pools_of p.xy.now p.ends.now p.z.now p.m.now p.t.now p.tm.now
 
 abbrev pub lent_of : Pools → Lent
 lent_of P = record { xy = length P.xy; ends = length P.ends; z = length P.z; m = length P.m; t = length P.t; tm = length P.tm }
@@ -37,12 +39,12 @@ pub record Rec : Type 0 where
   pub parts : Option (ℕ × ℕ)
 
 abbrev pub list_of : List ℕ → Span → Option (List ℕ)
-list_of pool Absent = none
-list_of pool (Stretch start count) = some (take count (drop start pool))
+list_of pool None = none
+list_of pool (Some s) = some (take s.count (drop s.start pool))
 
 abbrev pub parts_of : Span → Option (ℕ × ℕ)
-parts_of Absent = none
-parts_of (Stretch start count) = some (start, count)
+parts_of None = none
+parts_of (Some s) = some (s.start, s.count)
 
 abbrev pub lists_of : Pools → Geometry → Rec
 lists_of P g =
@@ -58,18 +60,18 @@ lists_of P g =
     }
 
 abbrev pub seen : Pools → Judged → Option Rec
-seen P Bad = none
-seen P (Good g) = some (lists_of P g)
+seen P None = none
+seen P (Some g) = some (lists_of P g)
 
 -- the record with a number, none where it is bad
 unfoldable pub record_with : List ℕ → Pools → ℕ → Option Rec
 record_with table P n = seen P (record_at table (lent_of P) n)
 
-pub with_good : (table : List ℕ) (P : Pools) (n : ℕ) (g : Geometry) → record_at table (lent_of P) n ≡ Good g → record_with table P n ≡ some (lists_of P g)
+pub with_good : (table : List ℕ) (P : Pools) (n : ℕ) (g : Geometry) → record_at table (lent_of P) n ≡ Some g → record_with table P n ≡ some (lists_of P g)
 unfolding record_with
 with_good table P n g h = rw h
 
-pub with_bad : (table : List ℕ) (P : Pools) (n : ℕ) → record_at table (lent_of P) n ≡ Bad → record_with table P n ≡ none
+pub with_bad : (table : List ℕ) (P : Pools) (n : ℕ) → record_at table (lent_of P) n ≡ None → record_with table P n ≡ none
 unfolding record_with
 with_bad table P n h = rw h
 

@@ -1,97 +1,100 @@
-// Boxes of geometries by record number. A case has a run of the table's records, and the words that their lists are in.
-use bbox::{Box, edge_bits};
-use record_box::Boxed;
-use replay::{bytes_from, difference, first, number, past, unless, word};
+//! Boxes of geometries by record number. A case has a run of the table's records, and the words that their lists are in.
+use bbox::{Box, edges_of};
+use kinds::refusal::answer_number;
+use replay::{Differences, Fields, Memory, so_many};
+use store::{Pools, Store};
 
-// Where the parts of a case stand.
-const NUMBER: usize = 1;
+/// How much of each pool is lent.
+#[derive(Clone, Copy)]
+struct Lent {
+    xy: usize,
+    xy_place: usize,
+    ends: usize,
+    z: usize,
+    m: usize,
+    t: usize,
+    tm: usize,
+}
 
-const RECORD: usize = 2;
+#[derive(Clone, Copy)]
+struct Case {
+    number: u32,
+    record: usize,
+    table_length: usize,
+    place: usize,
+    table_bytes: usize,
+    lent: Lent,
+    edges: [u64; 4],
+}
 
-const TABLE_LENGTH: usize = 4;
-
-const PLACE: usize = 5;
-
-// How many bytes of the table the case has.
-const TABLE_BYTES: usize = 6;
-
-const XY_LENT: usize = 7;
-
-const XY_PLACE: usize = 8;
-
-const OTHERS_LENT: usize = 9;
-
-const EDGES: usize = 14;
-
-const BYTES: usize = 22;
-
-pub fn boxed(case: &[u8], memory: &mut [u8], words: &mut [u64], ends: &[u32]) -> u8 {
-    let length = number(case, TABLE_LENGTH);
-    let lent = number(case, XY_LENT);
-    if length > memory.len() {
-        return difference::CASE;
+impl Lent {
+    fn new(fields: &mut Fields<'_>) -> Lent {
+        Lent {
+            xy: fields.number() as usize,
+            xy_place: fields.number() as usize,
+            ends: fields.number() as usize,
+            z: fields.number() as usize,
+            m: fields.number() as usize,
+            t: fields.number() as usize,
+            tm: fields.number() as usize,
+        }
     }
-    if lent > words.len() {
-        return difference::CASE;
+}
+
+impl Case {
+    fn new(fields: &mut Fields<'_>) -> Case {
+        Case {
+            number: fields.number(),
+            record: fields.word() as usize,
+            table_length: fields.number() as usize,
+            place: fields.number() as usize,
+            table_bytes: fields.number() as usize,
+            lent: Lent::new(fields),
+            edges: [fields.word(), fields.word(), fields.word(), fields.word()],
+        }
     }
-    let bytes = bytes_from(case, BYTES);
-    let table_bytes = number(case, TABLE_BYTES);
+}
+
+/// Behind its numbers a case has the bytes of the table, and then the words.
+pub fn boxed(mut fields: Fields<'_>, memory: &mut Memory) -> Differences {
+    let case = Case::new(&mut fields);
+    let Some(table) = memory.table.as_mut_slice().get_mut(..case.table_length) else {
+        return Differences::CASE;
+    };
+    let Some(xy) = memory.words.as_mut_slice().get_mut(..case.lent.xy) else {
+        return Differences::CASE;
+    };
+    let table_bytes = fields.bytes(case.table_bytes);
+    replay::lay(table, case.place, table_bytes.iter().copied());
+    let words = fields.rest().as_chunks::<8>().0.iter();
     replay::lay(
-        &mut memory[0..length],
-        number(case, PLACE),
-        first(bytes, table_bytes),
+        xy,
+        case.lent.xy_place,
+        words.map(|word| u64::from_le_bytes(*word)),
     );
-    replay::lay_words(
-        &mut words[0..lent],
-        number(case, XY_PLACE),
-        past(bytes, table_bytes),
-    );
-    differences(ask(&memory[0..length], words, ends, case), case)
-}
-
-// Of the other pools only the lengths are looked at.
-fn ask(table: &[u8], words: &[u64], ends: &[u32], case: &[u8]) -> Boxed {
-    let lent = bytes_from(case, OTHERS_LENT);
-    record_box::box_at(
-        table,
-        so_many(words, number(case, XY_LENT)),
-        so_many_ends(ends, number(lent, 0)),
-        so_many(words, number(lent, 1)),
-        so_many(words, number(lent, 2)),
-        so_many(words, number(lent, 3)),
-        so_many(words, number(lent, 4)),
-        word(case, RECORD) as usize,
-    )
-}
-
-fn so_many(words: &[u64], n: usize) -> &[u64] {
-    if n > words.len() {
-        return words;
+    let (number, edges) = ask(memory, case);
+    Differences {
+        number: u32::from(number) != case.number,
+        answer: edges != case.edges,
+        ..Differences::NONE
     }
-    &words[0..n]
 }
 
-fn so_many_ends(ends: &[u32], n: usize) -> &[u32] {
-    if n > ends.len() {
-        return ends;
-    }
-    &ends[0..n]
-}
-
-fn differences(boxed: Boxed, case: &[u8]) -> u8 {
-    let edges = boxed.bbox;
-    unless(
-        boxed.number as usize == number(case, NUMBER),
-        difference::NUMBER,
-    ) | unless(
-        has_edges(edges, bytes_from(case, EDGES)),
-        difference::ANSWER,
+// The number and the edges that a box answers. Of the pools but xy only the lengths are looked at.
+fn ask(memory: &Memory, case: Case) -> (u8, [u64; 4]) {
+    let words = memory.words.as_slice();
+    let pools = Pools {
+        xy: so_many(words, case.lent.xy),
+        ends: so_many(&memory.ends, case.lent.ends),
+        z: so_many(words, case.lent.z),
+        m: so_many(words, case.lent.m),
+        t: so_many(words, case.lent.t),
+        tm: so_many(words, case.lent.tm),
+    };
+    let table = so_many(&memory.table, case.table_length);
+    let boxed = record_box::box_at(&Store { table, pools }, case.record);
+    (
+        answer_number(&boxed),
+        edges_of(boxed.unwrap_or(Box::empty())),
     )
-}
-
-fn has_edges(edges: Box, words: &[u8]) -> bool {
-    (edge_bits(edges.least_x) == word(words, 0))
-        & (edge_bits(edges.least_y) == word(words, 2))
-        & (edge_bits(edges.greatest_x) == word(words, 4))
-        & (edge_bits(edges.greatest_y) == word(words, 6))
 }

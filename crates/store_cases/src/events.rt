@@ -1,100 +1,83 @@
-// Events heard, and said to a log.
-use event_log::EVENT_BYTES;
-use kinds::answer::Answer;
+//! Events heard, and said to a log.
+use event_log::{EVENT_BYTES, Events, Log};
 use kinds::event::{Event, Heard};
-use kinds::refusal;
-use replay::{bytes_from, difference, first, number, past, unless, word};
+use kinds::refusal::{Refusal, answer_number};
+use replay::{Differences, Fields};
 
-// Where the parts of a case stand.
-const NUMBER: usize = 1;
-
-const FEATURE: usize = 2;
-
-const HEARD_EVENT: usize = 3;
-
-const LOG_LENGTH: usize = 2;
-
-const COUNT: usize = 3;
-
-const COUNT_AFTER: usize = 5;
-
-const PLACE: usize = 7;
-
-const SAID_EVENT: usize = 8;
-
-fn number_of(heard: Heard) -> usize {
-    if let Heard::Malformed = heard {
-        refusal::MALFORMED as usize
-    } else {
-        refusal::DONE as usize
+// Whether bytes are heard as an event.
+fn heard_number(event: &[u8]) -> u8 {
+    match event_log::hear(event) {
+        Heard::Malformed => Refusal::Malformed.number(),
+        _ => 0,
     }
 }
 
 // Only a record has the number of a feature.
-fn feature_of(event: &[u8]) -> usize {
-    if event.len() != EVENT_BYTES {
-        return 0;
+fn feature_of(event: &[u8]) -> u32 {
+    if event.len() == EVENT_BYTES {
+        event_log::feature_in(event)
+    } else {
+        0
     }
-    event_log::feature_in(event) as usize
 }
 
-pub fn heard(case: &[u8]) -> u8 {
-    let event = bytes_from(case, HEARD_EVENT);
-    let heard = event_log::hear(event);
-    unless(number_of(heard) == number(case, NUMBER), difference::NUMBER)
-        | unless(
-            feature_of(event) == number(case, FEATURE),
-            difference::ANSWER,
-        )
-}
-
-pub fn said(case: &[u8], memory: &mut [u8]) -> u8 {
-    let length = number(case, LOG_LENGTH);
-    if length > memory.len() {
-        return difference::CASE;
+pub fn heard(mut case: Fields<'_>) -> Differences {
+    let number = case.number();
+    let feature = case.number();
+    let event = case.rest();
+    Differences {
+        number: u32::from(heard_number(event)) != number,
+        answer: feature_of(event) != feature,
+        ..Differences::NONE
     }
-    said_to(&mut memory[0..length], case)
 }
 
-fn said_to(log: &mut [u8], case: &[u8]) -> u8 {
+pub fn said(mut case: Fields<'_>, memory: &mut [u8]) -> Differences {
+    let number = case.number();
+    let log_length = case.number() as usize;
+    let count = case.word() as usize;
+    let count_after = case.word() as usize;
+    let place = case.number() as usize;
+    let (feature, event) = event_of(case.bytes(EVENT_BYTES));
+    let Some(log) = memory.get_mut(..log_length) else {
+        return Differences::CASE;
+    };
     replay::clear(log);
-    let record = first(bytes_from(case, SAID_EVENT), EVENT_BYTES);
-    say(log, number(record, 3) as u32, event_of(record), case)
-}
-
-// The event of a record, as SPEC 3.2 lays it out. It is not heard by the store, which may have no need of all of it.
-fn event_of(record: &[u8]) -> Event {
-    let head = number(record, 0);
-    Event {
-        kind: (head % 256) as u8,
-        tagged: head / 256 % 256 == 1,
-        present: (head / 65536 % 256) as u8,
-        size: number(record, 1) as u32,
-        idx: number(record, 2) as u32,
-        x: word(record, 4),
-        y: word(record, 6),
-        z: word(record, 8),
-        m: word(record, 10),
-        t: word(record, 12),
-        tm: word(record, 14),
+    let (said_number, said_count) = say(log, feature, count, event);
+    Differences {
+        number: u32::from(said_number) != number,
+        count: said_count != count_after,
+        memory: !replay::holds(log, place, case.rest()),
+        ..Differences::NONE
     }
 }
 
-fn say(log: &mut [u8], feature: u32, e: Event, case: &[u8]) -> u8 {
-    let answer = event_log::say(log, feature, word(case, COUNT) as usize, e);
-    differences(answer, log, case)
+// The number and the count that saying an event to a log answers.
+fn say(log: &mut [u8], feature: u32, count: usize, event: Event) -> (u8, usize) {
+    let mut log = Log::continued(log, Events { feature }, count);
+    let said = log.say(event);
+    (answer_number(&said), log.count())
 }
 
-fn differences(answer: Answer, log: &[u8], case: &[u8]) -> u8 {
-    let laid = past(bytes_from(case, SAID_EVENT), EVENT_BYTES);
-    unless(
-        answer.number as usize == number(case, NUMBER),
-        difference::NUMBER,
-    ) | unless(
-        answer.count as u64 == word(case, COUNT_AFTER),
-        difference::COUNT,
-    ) | unless(
-        replay::holds(log, number(case, PLACE), laid),
-        difference::MEMORY,
-    )
+// A record's feature and event, as SPEC 3.2 lays it out. It is not heard by the store, which may have no need of all of it.
+fn event_of(record: &[u8]) -> (u32, Event) {
+    let mut fields = Fields::new(record);
+    let [kind, tagged, present, _] = fields.number().to_le_bytes();
+    let size = fields.number();
+    let idx = fields.number();
+    let feature = fields.number();
+    let event = Event {
+        kind,
+        tagged: tagged == 1,
+        present,
+        size,
+        idx,
+        x: fields.word(),
+        y: fields.word(),
+        z: fields.word(),
+        m: fields.word(),
+        t: fields.word(),
+        tm: fields.word(),
+    };
+    (feature, event)
 }

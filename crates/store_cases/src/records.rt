@@ -1,118 +1,133 @@
-// Geometry records judged, and put down again.
-use kinds::geometry::{Geometry, Judged, Lent, Span};
-use kinds::refusal;
-use replay::{bytes_from, difference, number, unless, word};
+//! Geometry records judged, and put down again.
+use kinds::geometry::{Geometry, Stretch};
+use kinds::lanes::Lanes;
+use kinds::refusal::Refusal;
+use replay::{Differences, Fields};
 
-// Where the parts of a case stand.
-const NUMBER: usize = 1;
+/// A list as a case has it: 0 where there is none and 1 where there is one, then its start and its count.
+#[derive(Clone, Copy)]
+struct List {
+    presence: u32,
+    start: u32,
+    count: u32,
+}
 
-const RECORD: usize = 2;
+#[derive(Clone, Copy)]
+struct Case {
+    number: u32,
+    record: usize,
+    table_length: usize,
+    place: usize,
+    kind: u32,
+    lent: [usize; 6],
+    lists: [List; 7],
+}
 
-const TABLE_LENGTH: usize = 4;
+impl List {
+    const NONE: List = List {
+        presence: 0,
+        start: 0,
+        count: 0,
+    };
 
-const PLACE: usize = 5;
-
-const KIND: usize = 6;
-
-const LENT: usize = 7;
-
-const LISTS: usize = 13;
-
-const BYTES: usize = 34;
-
-pub fn judged(case: &[u8], memory: &mut [u8]) -> u8 {
-    let length = number(case, TABLE_LENGTH);
-    if length > memory.len() {
-        return difference::CASE;
+    fn is(self, list: Option<Stretch>) -> bool {
+        match list {
+            Some(stretch) => {
+                self.presence == 1 && self.start == stretch.start && self.count == stretch.count
+            }
+            None => self.presence == 0,
+        }
     }
-    judged_in(&mut memory[0..length], case)
 }
 
-fn judged_in(table: &mut [u8], case: &[u8]) -> u8 {
-    replay::lay(table, number(case, PLACE), bytes_from(case, BYTES));
-    let judged = ask(table, case);
-    differences(judged, table, case)
-}
-
-fn differences(judged: Judged, table: &mut [u8], case: &[u8]) -> u8 {
-    match judged {
-        Judged::Bad => unexpected(refusal::BAD_RECORD, case),
-        Judged::Good(g) => good(g, table, case),
+impl Case {
+    fn new(fields: &mut Fields<'_>) -> Case {
+        Case {
+            number: fields.number(),
+            record: fields.word() as usize,
+            table_length: fields.number() as usize,
+            place: fields.number() as usize,
+            kind: fields.number(),
+            lent: next_lent(fields),
+            lists: next_lists(fields),
+        }
     }
 }
 
-fn good(g: Geometry, table: &mut [u8], case: &[u8]) -> u8 {
-    unexpected(refusal::DONE, case)
-        | unless(is_record(g, case), difference::ANSWER)
-        | put_down(table, g, case)
+fn next_lent(fields: &mut Fields<'_>) -> [usize; 6] {
+    let mut lent = [0; 6];
+    for words in &mut lent {
+        *words = fields.number() as usize;
+    }
+    lent
 }
 
-fn ask(table: &[u8], case: &[u8]) -> Judged {
-    store::record_at(
-        table,
-        lent(bytes_from(case, LENT)),
-        word(case, RECORD) as usize,
-    )
+fn next_lists(fields: &mut Fields<'_>) -> [List; 7] {
+    let mut lists = [List::NONE; 7];
+    for list in &mut lists {
+        *list = List {
+            presence: fields.number(),
+            start: fields.number(),
+            count: fields.number(),
+        };
+    }
+    lists
 }
 
-fn lent(words: &[u8]) -> Lent {
-    Lent::new(
-        number(words, 0),
-        number(words, 1),
-        number(words, 2),
-        number(words, 3),
-        number(words, 4),
-        number(words, 5),
-    )
+/// Behind its numbers a case has the record's bytes.
+pub fn judged(mut fields: Fields<'_>, memory: &mut [u8]) -> Differences {
+    let case = Case::new(&mut fields);
+    let bytes = fields.rest();
+    let Some(table) = memory.get_mut(..case.table_length) else {
+        return Differences::CASE;
+    };
+    replay::lay(table, case.place, bytes.iter().copied());
+    match ask(table, case) {
+        Some(geometry) => put_down(geometry, table, bytes, case),
+        None => Differences {
+            number: case.number != u32::from(Refusal::BadRecord.number()),
+            ..Differences::NONE
+        },
+    }
 }
 
-fn unexpected(answer: u8, case: &[u8]) -> u8 {
-    unless(answer as usize == number(case, NUMBER), difference::NUMBER)
+// The record, where it is a good one.
+fn ask(table: &[u8], case: Case) -> Option<Geometry> {
+    let [xy, ends, z, m, t, tm] = case.lent;
+    let lent = Lanes {
+        xy,
+        ends,
+        z,
+        m,
+        t,
+        tm,
+    };
+    store::record_at(table, lent, case.record)
 }
 
 // In a table of canaries the record's own bytes come back, and nothing else changes.
-fn put_down(table: &mut [u8], g: Geometry, case: &[u8]) -> u8 {
+fn put_down(geometry: Geometry, table: &mut [u8], bytes: &[u8], case: Case) -> Differences {
     replay::clear(table);
-    let n = word(case, RECORD) as usize;
-    if n >= store::records_lent(table) {
-        return difference::CASE;
+    if case.record >= store::records_lent(table) {
+        return Differences::CASE;
     }
-    store::put_record(table, n, g);
-    let same = replay::holds(table, number(case, PLACE), bytes_from(case, BYTES));
-    unless(same, difference::MEMORY)
-}
-
-fn is_record(g: Geometry, case: &[u8]) -> bool {
-    (g.kind as usize == number(case, KIND)) & has_lists(g, bytes_from(case, LISTS))
-}
-
-// Whether all lists are as the case has them, in three numbers each.
-fn has_lists(g: Geometry, lists: &[u8]) -> bool {
-    let xy = g.xy;
-    let ends = g.ends;
-    let z = g.z;
-    let m = g.m;
-    let t = g.t;
-    let tm = g.tm;
-    let parts = g.parts;
-    is_list(xy, lists, 0)
-        & is_list(ends, lists, 3)
-        & is_list(z, lists, 6)
-        & is_list(m, lists, 9)
-        & is_list(t, lists, 12)
-        & is_list(tm, lists, 15)
-        & is_list(parts, lists, 18)
-}
-
-// Whether a list is as the case has it: there or not, its start and its count.
-fn is_list(s: Span, lists: &[u8], at: usize) -> bool {
-    let list = bytes_from(lists, at);
-    match s {
-        Span::Absent => number(list, 0) == 0,
-        Span::Stretch { start, count } => {
-            (number(list, 0) == 1)
-                & (number(list, 1) == start as usize)
-                & (number(list, 2) == count as usize)
-        }
+    store::put_record(table, case.record, geometry);
+    Differences {
+        number: case.number != 0,
+        answer: u32::from(geometry.kind) != case.kind || !has_lists(geometry, case),
+        memory: !replay::holds(table, case.place, bytes),
+        ..Differences::NONE
     }
+}
+
+// Whether all lists are as the case has them.
+fn has_lists(geometry: Geometry, case: Case) -> bool {
+    let [xy, ends, z, m, t, tm, parts] = case.lists;
+    xy.is(geometry.xy)
+        && ends.is(geometry.ends)
+        && z.is(geometry.z)
+        && m.is(geometry.m)
+        && t.is(geometry.t)
+        && tm.is(geometry.tm)
+        && parts.is(geometry.parts)
 }

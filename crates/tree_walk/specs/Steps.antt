@@ -49,28 +49,27 @@ module _ {S : Type 0} (get : ℕ → Option Parts) (own : ℕ → S → S) (part
   unfolding walked
   in_good r e o = ap in_record e ∙ rw (sym o)
 
--- ---- the turns of the loop over the parts: X is what the whole gives, F what is done behind the parts
-module _ {S : Type 0} {X : Left S} (K : ℕ → S → List ℕ → ℕ → Left S) (F : S → List ℕ → ℕ → Left S) (size from i : ℕ) (b : S) (m : List ℕ) (v : ℕ)
-    (x : X ≡ next (parts_kept K (size - i) (from + i) b m v) F) where
+-- ---- the turns of the loop over the parts, up to a number: X is what the whole gives, F what is done behind the parts
+module _ {S : Type 0} {X : Left S} (K : ℕ → S → List ℕ → ℕ → Left S) (F : S → List ℕ → ℕ → Left S) (end part : ℕ) (b : S) (m : List ℕ) (v : ℕ)
+    (x : X ≡ next (parts_kept K (end - part) part b m v) F) where
   abbrev rest : S → List ℕ → ℕ → Left S
-  rest e m' u = next (parts_kept K (size - (i + 1)) (from + (i + 1)) e m' u) F
+  rest e m' u = next (parts_kept K (end - (part + 1)) (part + 1) e m' u) F
 
-  one_more_lem : i < size → parts_kept K (size - i) (from + i) b m v ≡ next (K (from + i) b m v) (parts_kept K (size - (i + 1)) (from + (i + 1)))
+  one_more_lem : part < end → parts_kept K (end - part) part b m v ≡ next (K part b m v) (parts_kept K (end - (part + 1)) (part + 1))
   unfolding parts_kept
   one_more_lem h =
-      let e : size - i ≡ suc (size - (i + 1)) = omega arith in
-      let f : from + i + 1 ≡ from + (i + 1) = omega arith in
-      rw (e, f)
+      let e : end - part ≡ suc (end - (part + 1)) = omega arith in
+      rw e
 
   next-next : (l : Left S) (f g : S → List ℕ → ℕ → Left S) → next (next l f) g ≡ next l (λ e m' u. next (f e m' u) g)
   next-next (left zero e m' u) f g = refl
   next-next (left (suc c) e m' u) f g = refl
 
-  in_turn : i < size → X ≡ next (K (from + i) b m v) rest
-  in_turn h = x ∙ ap (λ (l : Left S). next l F) (one_more_lem h) ∙ next-next (K (from + i) b m v) (parts_kept K (size - (i + 1)) (from + (i + 1))) F
+  in_turn : part < end → X ≡ next (K part b m v) rest
+  in_turn h = x ∙ ap (λ (l : Left S). next l F) (one_more_lem h) ∙ next-next (K part b m v) (parts_kept K (end - (part + 1)) (part + 1)) F
 
-  module _ {c : ℕ} {e : S} {m' : List ℕ} {u : ℕ} (h : i < size) (k : K (from + i) b m v ≡ left c e m' u) where
-    pub went_on : c ≡ 0 → X ≡ next (parts_kept K (size - (i + 1)) (from + (i + 1)) e m' u) F
+  module _ {c : ℕ} {e : S} {m' : List ℕ} {u : ℕ} (h : part < end) (k : K part b m v ≡ left c e m' u) where
+    pub went_on : c ≡ 0 → X ≡ next (parts_kept K (end - (part + 1)) (part + 1) e m' u) F
     went_on z = in_turn h ∙ ap (λ (l : Left S). next l rest) (k ∙ ap (λ (w : ℕ). left w e m' u) z)
 
     pub broke_off : (c ≡ 0 → ⊥) → X ≡ left c e m' u
@@ -80,6 +79,6 @@ module _ {S : Type 0} {X : Left S} (K : ℕ → S → List ℕ → ℕ → Left 
         stays zero z = absurd (z refl)
         stays (suc c) z = refl
 
-  pub came-through : size ≤ i → X ≡ F b m v
+  pub came-through : end ≤ part → X ≡ F b m v
   unfolding parts_kept
-  came-through h = let e : size - i ≡ 0 = omega arith in x ∙ rw e
+  came-through h = let e : end - part ≡ 0 = omega arith in x ∙ rw e

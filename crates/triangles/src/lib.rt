@@ -1,168 +1,81 @@
 // The triangles of a record: one for each of its lines.
 #![tactic(auto)]
 
-ghost use Rattle.std.specs.Prelude.{◌≡◌, ◌≤◌, length};
-ghost use Rattle.laws.specs.Script.{out, run};
-ghost use Rattle.event_log.specs.Log.{events};
-ghost use Rattle.coords.specs.Seen.{coords_in};
+ghost use Rattle.std.specs.Prelude.{◌≡◌};
+ghost use Rattle.event_log.specs.Says.{Says, of_events};
+ghost use Rattle.coords.specs.Views.{coords_in};
 ghost use Rattle.lines.specs.Lines.{triangle_at, triangles_s, triangle_s, tin_s};
 
-use coords::Seen;
-use kinds::answer::Answer;
-use kinds::event::Event;
-use kinds::{geometry_type, refusal};
+use coords::{Head, Lists};
+use event_log::EventLog;
+use kinds::geometry_type::GeometryType;
+use kinds::refusal::Refusal;
 
 // A triangle whose one line goes from pair `before` to pair `end`.
 fn read_triangle_at(
-    log: &mut [u8],
-    feature: u32,
-    count: usize,
-    xy: &[u64],
-    z: &[u64],
-    m: &[u64],
-    t: &[u64],
-    tm: &[u64],
-    seen: Seen,
+    lists: &Lists,
     tagged: bool,
     before: u32,
     end: u32,
     idx: u32,
-) -> Answer
-    requires { length xy.now ≤ 131072 }
-    ensures { let C = coords_in seen xy.now z.now m.now t.now tm.now in
-        run (events feature) (triangle_at C tagged before end idx) log.old count ≡ out result.number result.count log.new }
+    log: &mut EventLog,
+) -> Result<(), Refusal>
+    ensures { Says of_events (triangle_at (coords_in lists.now) tagged before end idx) log.old log.new result }
 {
-    let b = event_log::say(
-        log,
-        feature,
-        count,
-        Event::begin(geometry_type::TRIANGLE, tagged, 1, idx),
-    );
-    if b.number != refusal::DONE {
-        return b;
-    }
-    let r = lines::read_multilinestring_part(
-        log, feature, b.count, xy, z, m, t, tm, seen, before, end, 0,
-    );
-    if r.number != refusal::DONE {
-        return r;
-    }
-    event_log::say(
-        log,
-        feature,
-        r.count,
-        Event::end(geometry_type::TRIANGLE, tagged, idx),
-    )
+    let head = Head {
+        kind: GeometryType::Triangle,
+        tagged,
+        idx,
+    };
+    log.say(head.begin(1))?;
+    lines::read_multilinestring_part(lists, before, end, 0, log)?;
+    log.say(head.end())
 }
 
-fn read_triangles(
-    log: &mut [u8],
-    feature: u32,
-    count: usize,
-    xy: &[u64],
-    ends: &[u32],
-    z: &[u64],
-    m: &[u64],
-    t: &[u64],
-    tm: &[u64],
-    seen: Seen,
-    tagged: bool,
-) -> Answer
-    requires { (length xy.now ≤ 131072) × (length ends.now ≤ 65536) }
-    ensures { let C = coords_in seen xy.now z.now m.now t.now tm.now in
-        run (events feature) (triangles_s C ends.now tagged 0 0) log.old count ≡ out result.number result.count log.new }
+fn read_triangles(lists: &Lists, tagged: bool, log: &mut EventLog) -> Result<(), Refusal>
+    ensures { Says of_events (triangles_s (coords_in lists.now) lists.now.ends.now tagged 0 0) log.old log.new result }
 {
-    let mut said = count;
+    let ends = lists.ends;
     let mut before: u32 = 0;
-    let mut i: usize = 0;
-    while i < ends.len() {
-        let end = ends[i];
-        let idx = i as u32;
-        let r = read_triangle_at(
-            log, feature, said, xy, z, m, t, tm, seen, tagged, before, end, idx,
-        );
-        if r.number != refusal::DONE {
-            return r;
-        }
-        said = r.count;
-        before = end;
-        i += 1;
+    for (i, end) in ends.iter().enumerate() {
+        read_triangle_at(lists, tagged, before, *end, i as u32, log)?;
+        before = *end;
     }
-    Answer {
-        number: refusal::DONE,
-        count: said,
-    }
+    Ok(())
 }
 
 pub fn read_triangle(
-    log: &mut [u8],
-    feature: u32,
-    count: usize,
-    xy: &[u64],
-    ends: &[u32],
-    z: &[u64],
-    m: &[u64],
-    t: &[u64],
-    tm: &[u64],
-    seen: Seen,
+    lists: &Lists,
     tagged: bool,
     idx: u32,
-) -> Answer
-    requires { (length xy.now ≤ 131072) × (length ends.now ≤ 65536) }
-    ensures { let C = coords_in seen xy.now z.now m.now t.now tm.now in
-        run (events feature) (triangle_s C ends.now tagged idx) log.old count ≡ out result.number result.count log.new }
+    log: &mut EventLog,
+) -> Result<(), Refusal>
+    ensures { Says of_events (triangle_s (coords_in lists.now) lists.now.ends.now tagged idx) log.old log.new result }
 {
-    if lines::nothing_there(seen.xy, ends.len()) {
-        return Answer {
-            number: refusal::DONE,
-            count,
-        };
+    if lines::nothing_there(lists) {
+        return Ok(());
     }
-    if ends.len() <= 1 {
-        let kind = geometry_type::TRIANGLE;
-        lines::read_stretches(
-            log, feature, count, xy, ends, z, m, t, tm, seen, kind, tagged, idx,
-        )
+    if lists.ends.len() <= 1 {
+        let head = Head {
+            kind: GeometryType::Triangle,
+            tagged,
+            idx,
+        };
+        lines::read_stretches(lists, head, log)
     } else {
-        read_triangles(log, feature, count, xy, ends, z, m, t, tm, seen, tagged)
+        read_triangles(lists, tagged, log)
     }
 }
 
-pub fn read_tin(
-    log: &mut [u8],
-    feature: u32,
-    count: usize,
-    xy: &[u64],
-    ends: &[u32],
-    z: &[u64],
-    m: &[u64],
-    t: &[u64],
-    tm: &[u64],
-    seen: Seen,
-    idx: u32,
-) -> Answer
-    requires { (length xy.now ≤ 131072) × (length ends.now ≤ 65536) }
-    ensures { let C = coords_in seen xy.now z.now m.now t.now tm.now in
-        run (events feature) (tin_s C ends.now idx) log.old count ≡ out result.number result.count log.new }
+pub fn read_tin(lists: &Lists, idx: u32, log: &mut EventLog) -> Result<(), Refusal>
+    ensures { Says of_events (tin_s (coords_in lists.now) lists.now.ends.now idx) log.old log.new result }
 {
-    let size = lines::stretches(ends.len());
-    let b = event_log::say(
-        log,
-        feature,
-        count,
-        Event::begin(geometry_type::TIN, false, size, idx),
-    );
-    if b.number != refusal::DONE {
-        return b;
-    }
-    let r = read_triangle(log, feature, b.count, xy, ends, z, m, t, tm, seen, false, 0);
-    if r.number != refusal::DONE {
-        return r;
-    }
-    event_log::say(
-        log,
-        feature,
-        r.count,
-        Event::end(geometry_type::TIN, false, idx),
-    )
+    let head = Head {
+        kind: GeometryType::Tin,
+        tagged: false,
+        idx,
+    };
+    log.say(head.begin(lines::stretches(lists)))?;
+    read_triangle(lists, false, 0, log)?;
+    log.say(head.end())
 }

@@ -1,12 +1,10 @@
 -- What is computed is what is meant: the first bad place is the one where the text ends, and a list is UTF-8 exactly when it is a text.
-use Rattle.std.specs.Prelude.{◌≡◌, refl, Bool, true, false, cond, ℕ, zero, suc, ◌+◌, ◌-◌, ◌≤◌, ◌<◌, leb, eqb, length, take, drop}
+use Rattle.std.specs.Prelude.{Option, Some, None, ◌≡◌, refl, Bool, true, false, cond, ℕ, zero, suc, ◌+◌, ◌-◌, ◌≤◌, ◌<◌, leb, eqb, length, take, drop}
 use Rattle.std.proofs.Common.{sym, ◌∙◌, ap, zero-le, arith, length-append, length-drop, take-append-drop, take-add, drop-drop, length-take-le, leb-true, le-leb, eqb-true, eq-eqb, ne_eqb}
 use mathlib.Core.List.{List, [], ◌∷◌, ◌++◌, append_assoc, append-nil, Memᴰ}
 use Rattle.std.proofs.Math.Seq.{take-length, drop-append_seam}
 use Rattle.std.proofs.lemmas.Bool.{eqb-false}
 use Rattle.laws.specs.Every.{never, both, every, every-at, each_at}
-use Rattle.utf8.specs.declared.Bad.{Bad}
-use Rattle.utf8.specs.declared.Bad.TheVariants.{Nowhere, At}
 use Rattle.utf8.specs.Utf8.{◌‥◌, Row, rows, Fits, Fits.end, Fits.byte, Character, Text, Text.empty, Text.more, NoCharacter, TextEnds, has, opens, find, row_of, begins, char_length, run, first_bad, is_utf8, BadIs}
 use Rattle.utf8.specs.Laws.{same_row, same_row_lem, char_within, bad_here, bad_later}
 
@@ -169,29 +167,29 @@ text_utf8 s t = eq-eqb (first_bad s) (length s) (omega (arith, rw append-nil at 
 
 -- The first bad byte, by computing and by the grammar.
 
-pub bad_nowhere : (s : List ℕ) → first_bad s ≡ length s → BadIs s Nowhere
+pub bad_nowhere : (s : List ℕ) → first_bad s ≡ length s → BadIs s None
 unfolding is_utf8
 bad_nowhere s e = utf8_text s (eq-eqb (first_bad s) (length s) e)
 
-pub bad_at : (s : List ℕ) (place : ℕ) → first_bad s ≡ place → place < length s → BadIs s (At place)
+pub bad_at : (s : List ℕ) (place : ℕ) → first_bad s ≡ place → place < length s → BadIs s (Some place)
 bad_at s place e h = let ends : TextEnds s place = rw e at (bad_ends s) in (h, ends.before, ends.after)
 
-pub bad_first : (s : List ℕ) → is_utf8 s ≡ false → BadIs s (At (first_bad s))
+pub bad_first : (s : List ℕ) → is_utf8 s ≡ false → BadIs s (Some (first_bad s))
 unfolding is_utf8
 bad_first s e = let n = eqb-false (first_bad s) (length s) e in bad_at s (first_bad s) refl (omega (arith, bad_within s))
 
-pub at_bad : (s : List ℕ) (place : ℕ) → BadIs s (At place) → (is_utf8 s ≡ false) × (place ≡ first_bad s)
+pub at_bad : (s : List ℕ) (place : ℕ) → BadIs s (Some place) → (is_utf8 s ≡ false) × (place ≡ first_bad s)
 unfolding is_utf8
 at_bad s place (h, before, after) =
     let is : first_bad s ≡ place = ends_bad s place (record { within = omega arith; before = before; after = after }) in
     (rw (is, ne_eqb place (length s) (λ same. omega arith)), sym is)
 
 -- there is one such answer
-pub bad_once : (s : List ℕ) (a b : Bad) → BadIs s a → BadIs s b → a ≡ b
-bad_once s Nowhere Nowhere t u = refl
-bad_once s Nowhere (At place) t u = absurd (never (sym (at_bad s place u).0 ∙ text_utf8 s t))
-bad_once s (At place) Nowhere t u = absurd (never (sym (at_bad s place t).0 ∙ text_utf8 s u))
-bad_once s (At place) (At other) t u = ap At ((at_bad s place t).1 ∙ sym (at_bad s other u).1)
+pub bad_once : (s : List ℕ) (a b : Option ℕ) → BadIs s a → BadIs s b → a ≡ b
+bad_once s None None t u = refl
+bad_once s None (Some place) t u = absurd (never (sym (at_bad s place u).0 ∙ text_utf8 s t))
+bad_once s (Some place) None t u = absurd (never (sym (at_bad s place t).0 ∙ text_utf8 s u))
+bad_once s (Some place) (Some other) t u = ap Some ((at_bad s place t).1 ∙ sym (at_bad s other u).1)
 
 -- For those who put texts together.
 

@@ -1,8 +1,6 @@
 -- SPEC 9.12: UTF-8 by the grammar of RFC 3629, section 4.
-use Rattle.std.specs.Prelude.{◌≡◌, Bool, true, false, cond, ◌&&◌, ℕ, zero, suc, ◌+◌, ◌≤◌, ◌<◌, leb, eqb, length, take, drop, replicate}
+use Rattle.std.specs.Prelude.{Option, Some, None, ◌≡◌, Bool, true, false, cond, ◌&&◌, ℕ, zero, suc, ◌+◌, ◌≤◌, ◌<◌, leb, eqb, length, take, drop, replicate}
 use mathlib.Core.List.{List, [], ◌∷◌, ◌++◌, Memᴰ}
-use Rattle.utf8.specs.declared.Bad.{Bad}
-use Rattle.utf8.specs.declared.Bad.TheVariants.{Nowhere, At}
 
 infix 68 ◌‥◌
 -- the bytes from the first to the last
@@ -60,9 +58,9 @@ pub record TextEnds (bytes : List ℕ) (at : ℕ) : Type 0 where
   pub after : NoCharacter (drop at bytes)
 
 -- the first bad byte of a list: there is none, and all is text; or it stands at a place, all before it is text, and no character begins there
-abbrev pub BadIs : List ℕ → Bad → Type 0
-BadIs bytes Nowhere = Text bytes
-BadIs bytes (At place) = (place < length bytes) × Text (take place bytes) × NoCharacter (drop place bytes)
+abbrev pub BadIs : List ℕ → Option ℕ → Type 0
+BadIs bytes None = Text bytes
+BadIs bytes (Some place) = (place < length bytes) × Text (take place bytes) × NoCharacter (drop place bytes)
 
 -- ---- the place where the characters end, by computing: `Meaning` proves that it is that of `TextEnds`
 
@@ -94,6 +92,11 @@ begins (range ∷ row) (b ∷ bytes) = has range b && begins row bytes
 unfoldable pub char_length : List ℕ → ℕ
 char_length [] = 0
 char_length (b ∷ bytes) = cond (begins (drop 1 (row_of b)) bytes) (length (row_of b)) 0
+
+-- how many bytes are counted, if there are any
+abbrev pub Counts : ℕ → Option ℕ → Type 0
+Counts n None = n ≡ 0
+Counts n (Some len) = (len ≡ n) × (0 < len)
 
 -- how many bytes the characters at the start of a list have, of which at most `most` are taken
 unfoldable pub run : ℕ → List ℕ → ℕ

@@ -2,78 +2,61 @@
 #![tactic(auto)]
 
 ghost use Rattle.std.specs.Prelude.{◌≡◌, ◌≤◌, ◌<◌, ◌+◌, length, drop};
-ghost use Rattle.utf8.specs.Utf8.{◌‥◌, has, tail, tails, second, row_of, begins, char_length, BadIs};
+ghost use Rattle.utf8.specs.Utf8.{◌‥◌, has, tail, tails, second, row_of, begins, char_length, BadIs, Counts};
 
-// Where bytes cease to be text.
-#[derive(Clone, Copy)]
-pub enum Bad {
-    Nowhere,
-    At(usize),
-}
-
-// The place of the first byte that begins no well-formed character, or that there is none.
+// The place of the first byte that begins no well-formed character, if there is one.
 // Most bytes are ASCII, and go by one test.
-pub fn first_bad(bytes: &[u8]) -> Bad
+pub fn first_bad(bytes: &[u8]) -> Option<usize>
     ensures { BadIs bytes.now result }
 {
     let mut at = 0;
+    // A step is as long as its character, so that no iterator counts it.
     while at < bytes.len() {
         if bytes[at] < 0x80 {
             at += 1;
         } else {
-            let len = char_length(bytes, at);
-            if len == 0 {
-                return Bad::At(at);
+            match char_length(bytes, at) {
+                Some(len) => at += len,
+                None => return Some(at),
             }
-            at += len;
         }
     }
-    Bad::Nowhere
+    None
 }
 
-// How many bytes the character at a place has, 0 where none begins there.
-fn char_length(bytes: &[u8], at: usize) -> usize
+// How many bytes the character at a place has, if one begins there.
+fn char_length(bytes: &[u8], at: usize) -> Option<usize>
     requires { at < length bytes.now }
-    ensures { result ≡ char_length (drop at bytes.now) }
+    ensures { Counts (char_length (drop at bytes.now)) result }
 {
     let lead = bytes[at];
-    let len = row_length(lead);
-    if len < 2 {
-        return len;
+    let len = row_length(lead)?;
+    if len == 1 {
+        return Some(len);
     }
     if bytes.len() - at < len {
-        return 0;
+        return None;
     }
     if !second_fits(lead, bytes[at + 1]) {
-        return 0;
+        return None;
     }
     if !tails_fit(bytes, at + 2, len - 2) {
-        return 0;
+        return None;
     }
-    len
+    Some(len)
 }
 
-// How many bytes a character has that begins with this byte, 0 where none does.
-// The test for ASCII comes first: most bytes are.
-fn row_length(lead: u8) -> usize
-    ensures { result ≡ length (row_of lead) }
+// How many bytes a character has that begins with this byte, if one does.
+fn row_length(lead: u8) -> Option<usize>
+    ensures { Counts (length (row_of lead)) result }
 {
-    if lead < 0x80 {
-        return 1;
+    match lead {
+        0x00..=0x7f => Some(1),
+        0xc2..=0xdf => Some(2),
+        0xe0..=0xef => Some(3),
+        0xf0..=0xf4 => Some(4),
+        _ => None,
     }
-    if lead < 0xc2 {
-        return 0;
-    }
-    if lead < 0xe0 {
-        return 2;
-    }
-    if lead < 0xf0 {
-        return 3;
-    }
-    if lead < 0xf5 {
-        return 4;
-    }
-    0
 }
 
 // Whether the second byte may stand after the first: four rows narrow its range.
@@ -115,8 +98,5 @@ fn is_tail(b: u8) -> bool
 fn in_range(b: u8, low: u8, high: u8) -> bool
     ensures { result ≡ has (low ‥ high) b }
 {
-    if b < low {
-        return false;
-    }
-    b <= high
+    (low <= b) & (b <= high)
 }

@@ -1,7 +1,7 @@
 -- The two byte orders: numbers as bytes in either, and back.
-use Rattle.std.specs.Prelude.{◌≡◌, List, reverse, ℕ, ◌+◌, ◌*◌, ◌≤◌, length, take, drop}
-use Rattle.std.proofs.Common.{arith}
-use Rattle.laws.specs.Bytes.{le, unle, word_at, part_join, four-at}
+use Rattle.std.specs.Prelude.{◌≡◌, List, [], ◌∷◌, reverse, ℕ, ◌+◌, ◌≤◌, length, get_or, take, drop}
+use Rattle.std.proofs.Common.{sym, ◌∙◌, arith}
+use Rattle.laws.specs.Bytes.{le, unle, part_join, four-at}
 use Rattle.wkb.specs.declared.order.Order.{Order}
 use Rattle.wkb.specs.declared.order.Order.TheVariants.{Big, Little}
 
@@ -23,15 +23,13 @@ big_at wide l at = unle (reverse (take wide (drop at l)))
 abbrev pub value_at : Order → ℕ → List ℕ → ℕ → ℕ
 value_at order wide l at = value_of order (take wide (drop at l))
 
--- eight bytes, the highest first, are two times four
-pub eight_big : (l : List ℕ) (at : ℕ) → at + 8 ≤ length l → big_at 8 l at ≡ big_at 4 l (at + 4) + 4294967296 * big_at 4 l at
-eight_big l at h =
+-- eight bytes, one by one
+pub eight-bytes : (l : List ℕ) (at : ℕ) → at + 8 ≤ length l
+    → take 8 (drop at l) ≡ get_or l at 0 ∷ get_or l (at + 1) 0 ∷ get_or l (at + 2) 0 ∷ get_or l (at + 3) 0 ∷ get_or l (at + 4) 0 ∷ get_or l (at + 5) 0 ∷ get_or l (at + 6) 0 ∷ get_or l (at + 7) 0 ∷ []
+eight-bytes l at h =
     let p : at + 4 ≤ length l = omega arith in
     let q : at + 4 + 4 ≤ length l = omega arith in
-    rw (← part_join 4 4 at l, four-at l at p, four-at l (at + 4) q) (omega arith)
-
-pub value_big : (order : Order) (wide : ℕ) (l : List ℕ) (at : ℕ) → order ≡ Big → value_at order wide l at ≡ big_at wide l at
-value_big order wide l at e = rw e
-
-pub value_little : (order : Order) (wide : ℕ) (l : List ℕ) (at : ℕ) → order ≡ Little → value_at order wide l at ≡ word_at wide l at
-value_little order wide l at e = rw e
+    let one : at + 4 + 1 ≡ at + 5 = omega arith in
+    let two : at + 4 + 2 ≡ at + 6 = omega arith in
+    let three : at + 4 + 3 ≡ at + 7 = omega arith in
+    sym (part_join 4 4 at l) ∙ rw (four-at l at p, four-at l (at + 4) q, one, two, three)

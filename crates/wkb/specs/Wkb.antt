@@ -1,5 +1,5 @@
 -- OGC Simple Features 1.2.1, 8.2: the bytes of a geometry. Each geometry has an order mark of its own, and its numbers lie in that order.
-use Rattle.std.specs.Prelude.{List, [], ◌∷◌, ◌++◌, ◌≡◌, ℕ, zero, suc, length}
+use Rattle.std.specs.Prelude.{Option, Some, None, List, [], ◌∷◌, ◌++◌, ◌≡◌, ℕ, zero, suc, ◌<◌, length}
 use Rattle.planar.specs.Geometry.{Coord, Line, Rings, Simple, point, line_string, polygon, multi_point, multi_line_string, multi_polygon, simple, collection, Geometry}
 use Rattle.planar.specs.Fits.{Each, Fits}
 use Rattle.wkb.specs.Order.{number_bytes}
@@ -14,6 +14,11 @@ Lays = List ℕ → List ℕ
 abbrev pub mark : Order → ℕ
 mark Big = 0
 mark Little = 1
+
+-- the order that a number marks
+abbrev pub MarkedBy : ℕ → Option Order → Type 0
+MarkedBy n (Some order) = mark order ≡ n
+MarkedBy n None = 1 < n
 
 abbrev pub uint32 : Order → ℕ → Lays
 uint32 o v k = number_bytes o 4 v ++ k

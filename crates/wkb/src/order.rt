@@ -1,10 +1,10 @@
 // The two byte orders, and the numbers of a field in either.
-ghost use Rattle.std.specs.Prelude.{◌≡◌, ◌+◌, ◌≤◌, ◌<◌, length};
-ghost use Rattle.laws.specs.Bytes.{word_at};
+ghost use Rattle.std.specs.Prelude.{◌≡◌, ◌+◌, ◌≤◌, length};
 ghost use Rattle.wkb.specs.Order.{big_at, value_at};
+ghost use Rattle.wkb.specs.Wkb.{MarkedBy};
 
 // How a geometry's numbers lie in bytes.
-#[derive(Clone, Copy)]
+#[derive(Clone, Copy, Debug, PartialEq, Eq)]
 pub enum Order {
     // XDR: the highest byte first.
     Big,
@@ -12,30 +12,40 @@ pub enum Order {
     Little,
 }
 
-fn wide(b: u8) -> u32
-    ensures { (result ≡ b) × (result < 256) }
-{
-    b as u32
+impl Order {
+    // The order that a mark in the bytes names, if any.
+    pub fn of(mark: u8) -> Option<Order>
+        ensures { MarkedBy mark result }
+    {
+        match mark {
+            0 => Some(Order::Big),
+            1 => Some(Order::Little),
+            _ => None,
+        }
+    }
 }
 
 fn u32_big_at(s: &[u8], at: usize) -> u32
     requires { at + 4 ≤ length s.now }
     ensures { result ≡ big_at 4 s.now at }
 {
-    wide(s[at + 3]) + 256 * (wide(s[at + 2]) + 256 * (wide(s[at + 1]) + 256 * wide(s[at])))
-}
-
-fn widen(v: u32) -> u64
-    ensures { (result ≡ v) × (result < 4294967296) }
-{
-    v as u64
+    u32::from_be_bytes([s[at], s[at + 1], s[at + 2], s[at + 3]])
 }
 
 fn u64_big_at(s: &[u8], at: usize) -> u64
     requires { at + 8 ≤ length s.now }
     ensures { result ≡ big_at 8 s.now at }
 {
-    widen(u32_big_at(s, at + 4)) + 4294967296 * widen(u32_big_at(s, at))
+    u64::from_be_bytes([
+        s[at],
+        s[at + 1],
+        s[at + 2],
+        s[at + 3],
+        s[at + 4],
+        s[at + 5],
+        s[at + 6],
+        s[at + 7],
+    ])
 }
 
 pub fn u32_at(s: &[u8], at: usize, order: Order) -> u32

@@ -1,4 +1,4 @@
-// Well-known binary: a case of the list that oracle/lists/wkb.py makes and lays out is answered with what differs in it.
+//! Well-known binary: a case of the list that oracle/lists/wkb.py makes and lays out is answered with what differs in it.
 #![tactic(auto)]
 
 mod reads;

@@ -1,47 +1,32 @@
-// Well-known binary read into a log.
-use kinds::answer::Answer;
-use replay::{bytes_from, difference, first, number, past, unless};
+//! Well-known binary read into a log.
+use event_log::{Events, Log};
+use kinds::refusal::answer_number;
+use replay::{Differences, Fields};
 
-// Where the parts of a case stand.
-const NUMBER: usize = 1;
-
-const COUNT: usize = 2;
-
-const LOG_LENGTH: usize = 3;
-
-const FEATURE: usize = 4;
-
-const BYTE_COUNT: usize = 5;
-
-const BYTES: usize = 6;
-
-pub fn read(case: &[u8], memory: &mut [u8]) -> u8 {
-    let length = number(case, LOG_LENGTH);
-    if length > memory.len() {
-        return difference::CASE;
-    }
-    read_to(&mut memory[0..length], case)
-}
-
-fn read_to(log: &mut [u8], case: &[u8]) -> u8 {
+pub fn read(mut case: Fields<'_>, memory: &mut [u8]) -> Differences {
+    let number = case.number();
+    let count = case.number() as usize;
+    let log_length = case.number() as usize;
+    let feature = case.number();
+    let byte_count = case.number() as usize;
+    let bytes = case.bytes(byte_count);
+    let records = case.rest();
+    let Some(log) = memory.get_mut(..log_length) else {
+        return Differences::CASE;
+    };
     replay::clear(log);
-    let answer = read_wkb(log, case);
-    differences(answer, log, case)
+    let (read_number, read_count) = read_wkb(bytes, feature, log);
+    Differences {
+        number: u32::from(read_number) != number,
+        count: read_count != count,
+        memory: !replay::holds(log, 0, records),
+        ..Differences::NONE
+    }
 }
 
-fn read_wkb(log: &mut [u8], case: &[u8]) -> Answer {
-    wkb_reader::read_wkb(
-        first(bytes_from(case, BYTES), number(case, BYTE_COUNT)),
-        number(case, FEATURE) as u32,
-        log,
-    )
-}
-
-fn differences(answer: Answer, log: &[u8], case: &[u8]) -> u8 {
-    let records = past(bytes_from(case, BYTES), number(case, BYTE_COUNT));
-    unless(
-        answer.number as usize == number(case, NUMBER),
-        difference::NUMBER,
-    ) | unless(answer.count == number(case, COUNT), difference::COUNT)
-        | unless(replay::holds(log, 0, records), difference::MEMORY)
+// The number and the count that a reading answers.
+fn read_wkb(bytes: &[u8], feature: u32, log: &mut [u8]) -> (u8, usize) {
+    let mut log = Log::new(log, Events { feature });
+    let read = wkb_reader::read_wkb(bytes, &mut log);
+    (answer_number(&read), log.count())
 }

@@ -5,7 +5,9 @@ use Rattle.std.proofs.Math.Bool.{true, false}
 use mathlib.Core.List.{List, [], ◌∷◌, map}
 use Rattle.laws.specs.Every.{never}
 use Rattle.kinds.specs.declared.event.Event.{Event as Flat}
-use Rattle.nesting.specs.Events.{GeometryType, Point, LineString, Polygon, MultiPoint, MultiLineString, MultiPolygon, Collection, Event, begin, end, pair, strange}
+use Rattle.nesting.specs.declared.geometry_type.GeometryType.{GeometryType}
+use Rattle.nesting.specs.declared.geometry_type.GeometryType.TheVariants.{Point, LineString, Polygon, MultiPoint, MultiLineString, MultiPolygon, Collection}
+use Rattle.nesting.specs.Events.{Event, begin, end, pair, strange}
 use Rattle.nesting.specs.Rules.{Rules}
 use Rattle.nesting.specs.Machine.{Frame, State, within, start, Answer, taken, refused, Place, here, too_deep, nowhere, only_lines, only_polygons, exceeds, member, place, begin_at, step, and_then, run}
 use Rattle.nesting.specs.Flat.{read}

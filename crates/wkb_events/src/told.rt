@@ -1,31 +1,29 @@
 // What a record of the list is to the machine: a pair, a begin, an end, or an event that refuses the list.
 ghost use Rattle.std.specs.Prelude.{◌≡◌, eqb, length};
-ghost use Rattle.kinds.specs.declared.event.Event.{Event as Flat};
-ghost use Rattle.kinds.specs.Event.{WellFormed};
-ghost use Rattle.event_log.specs.Log.{heard, feature_in};
 ghost use Rattle.wkb_events.specs.Told.{SortedOf, ToldOf};
 
 use kinds::event::Event;
+use kinds::refusal::Refusal;
+use nesting::GeometryType;
 
-#[derive(Clone, Copy)]
+#[derive(Clone, Copy, Debug, PartialEq, Eq)]
 pub enum Told {
     Pair {
         idx: u32,
     },
     Begin {
-        kind: u8,
+        kind: GeometryType,
         tagged: bool,
         size: u32,
         idx: u32,
     },
     End {
-        kind: u8,
+        kind: GeometryType,
         tagged: bool,
         idx: u32,
     },
     // An event that no geometry has, or an event of another feature.
     Strange,
-    Malformed,
 }
 
 // An event by its kind, pairs first, since they are the commonest. `own`: it is of the feature in hand.
@@ -35,11 +33,10 @@ fn sorted(own: bool, e: Event) -> Told
     if !own {
         return Told::Strange;
     }
-    let kind = e.kind;
-    if kind == Event::XY {
+    if e.kind == Event::XY {
         return Told::Pair { idx: e.idx };
     }
-    if (1 <= kind) & (kind <= 7) {
+    if let Some(kind) = GeometryType::of(e.kind) {
         return Told::Begin {
             kind,
             tagged: e.tagged,
@@ -47,9 +44,9 @@ fn sorted(own: bool, e: Event) -> Told
             idx: e.idx,
         };
     }
-    if (33 <= kind) & (kind <= 39) {
+    if let Some(kind) = GeometryType::of(e.kind.saturating_sub(Event::END)) {
         return Told::End {
-            kind: kind - 32,
+            kind,
             tagged: e.tagged,
             idx: e.idx,
         };
@@ -57,22 +54,14 @@ fn sorted(own: bool, e: Event) -> Told
     Told::Strange
 }
 
-// A record that is heard as an event.
-fn event_told(bytes: &[u8], feature: u32) -> Told
-    requires { length bytes.now ≡ 64 }
-    ensures { (e : Flat) → heard bytes.now ≡ WellFormed e → SortedOf (eqb (feature_in bytes.now) feature) e result }
-{
-    let own = event_log::feature_in(bytes) == feature;
-    sorted(own, event_log::event_in(bytes))
-}
-
-// A record, where the list is of this feature.
-pub fn hear(bytes: &[u8], feature: u32) -> Told
+// A record, where the list is of this feature. Refused: 11.
+pub fn hear(bytes: &[u8], feature: u32) -> Result<Told, Refusal>
     requires { length bytes.now ≡ 64 }
     ensures { ToldOf bytes.now feature result }
 {
     if !event_log::is_event(bytes) {
-        return Told::Malformed;
+        return Err(Refusal::Malformed);
     }
-    event_told(bytes, feature)
+    let own = event_log::feature_in(bytes) == feature;
+    Ok(sorted(own, event_log::event_in(bytes)))
 }

@@ -1,22 +1,22 @@
 -- In the course of a pass: the machine stands where the pass does, or an event was refused at a height that is not of the window.
-use Rattle.std.specs.Prelude.{◌≡◌, refl, Bool, true, false, not, ◌||◌, List, [], ◌∷◌, map, ℕ, ◌+◌, ◌-◌, ◌*◌, ◌<◌, ◌≤◌, eqb, length, get_or, set}
+use Rattle.std.specs.Prelude.{◌≡◌, refl, Bool, true, false, ◌||◌, List, [], ◌∷◌, map, ℕ, ◌+◌, ◌-◌, ◌*◌, ◌<◌, ◌≤◌, eqb, length, get_or, set}
 use Rattle.std.proofs.Common.{sym, ap, ◌∙◌, subst, arith, length-append, get_or-set_same, get_or-set_other}
-use Rattle.std.proofs.Math.Option.{none}
 use Rattle.std.proofs.Math.Decide.{dec_lt}
 use Rattle.kinds.specs.Event.{WellFormed}
 use Rattle.kinds.specs.declared.event.Event.{Event as Flat}
 use Rattle.event_log.specs.Log.{heard, feature_in, record_of, records_in}
 use Rattle.nesting.specs.Events.{Event}
-use Rattle.nesting.specs.Machine.{Frame, State, within, start, taken, refused, step}
+use Rattle.nesting.specs.Machine.{Frame, State, within, start, taken, step}
 use Rattle.nesting.specs.Flat.{read}
 use Rattle.nesting.specs.Levels.{any_depth, sixteen}
-use Rattle.nesting.specs.Taking.{Is, Refused}
+use Rattle.nesting.specs.Taking.{frame_of, Refused}
 use Rattle.nesting.specs.declared.frame.Frame.{Frame as Held}
-use Rattle.wkb_written.specs.Spelling.{Around, outermost, after, bytes_of, spelled}
+use Rattle.wkb_written.specs.declared.around.Around.{Around}
+use Rattle.wkb_written.specs.Spelling.{outermost, after, bytes_of, spelled}
 use Rattle.wkb_written.specs.SpellingLaws.{event_bound}
 use Rattle.wkb_written.specs.Writing.{listed, alike, nested, events_in}
 use Rattle.wkb_events.specs.Course.{fell, height_of, closes, course, course_goes, course_falls, nested-course, deepens, same_step, deep_stops}
-use Rattle.wkb_events.specs.Walk.{around_of, Moved}
+use Rattle.wkb_events.specs.Walk.{Moved}
 use Rattle.wkb_judge.specs.Rows.{lifted, listed_on, alike_on}
 use Rattle.wkb_judge.specs.Passing.{In, SlotOf}
 use Rattle.wkb_events.specs.declared.walk.Walk.{Walk}
@@ -25,7 +25,7 @@ use Rattle.wkb_events.specs.declared.walk.Walk.{Walk}
 -- each open geometry of the window but the innermost is kept in its slot
 abbrev pub Kept : ℕ → List Held → List Frame → Type 0
 Kept low stored [] = Unit {0}
-Kept low stored (f ∷ fs) = (In low (length fs) → (d : Held) → Is (get_or stored (length fs - low) d) f) × Kept low stored fs
+Kept low stored (f ∷ fs) = (In low (length fs) → (d : Held) → frame_of (get_or stored (length fs - low) d) ≡ f) × Kept low stored fs
 
 -- with sixteen levels the machine stands there too, or refused an event that went deeper
 abbrev pub Shallow : Bool → (List Flat → List Flat) → State → Type 0
@@ -37,7 +37,7 @@ pub record On (low : ℕ) (puts : List Flat → List Flat) (w : Walk) (top : Hel
   pub goes : (l : List Flat) → course any_depth (map read (puts l)) start ≡ course any_depth (map read l) (within f fs)
   pub shallow : Shallow w.deep puts (within f fs)
   pub tall : w.height ≡ length fs
-  pub innermost : In low (length fs) → Is top f
+  pub innermost : In low (length fs) → frame_of top ≡ f
   pub kept : Kept low stored fs
 
 pub record Off (low : ℕ) (puts : List Flat → List Flat) (highest : ℕ) : Type 0 where
@@ -54,7 +54,7 @@ pub record Along (bytes : List ℕ) (low feature i : ℕ) (w : Walk) (top : Held
   pub puts : List Flat → List Flat
   pub listing : events_in bytes ≡ lifted puts (listed (records_in bytes - i) i bytes)
   pub one : alike (records_in bytes) 0 bytes feature ≡ alike (records_in bytes - i) i bytes feature
-  pub long : (l : List Flat) → length (spelled outermost (map read (puts l))) ≡ w.length + length (spelled (around_of w) (map read l))
+  pub long : (l : List Flat) → length (spelled outermost (map read (puts l))) ≡ w.length + length (spelled w.around (map read l))
   pub high : w.height ≤ w.highest
   pub few : w.highest ≤ i
   pub short : w.length ≤ 21 * i
@@ -65,7 +65,7 @@ module _ (low k : ℕ) (v : Held) (stored : List Held) where
   pub kept_apart : (fs : List Frame) → ((h : ℕ) → In low h → h < length fs → h - low ≡ k → ⊥) → Kept low stored fs → Kept low (set stored k v) fs
   kept_apart [] apart kept = tt
   kept_apart (f ∷ fs) apart kept = (
-    λ seen d. subst (λ (g : Held). Is g f) (sym (get_or-set_other stored k (length fs - low) v d (apart (length fs) seen (omega arith)))) (kept.0 seen d),
+    λ seen d. subst (λ (g : Held). frame_of g ≡ f) (sym (get_or-set_other stored k (length fs - low) v d (apart (length fs) seen (omega arith)))) (kept.0 seen d),
     kept_apart fs (λ h seen less. apart h seen (omega arith)) kept.1,
   )
 
@@ -77,9 +77,9 @@ slot_apart low height k s h seen less e = go (dec_lt k 256)
     go (yes below) = let i = s.back below in omega (arith, i.0, s.seen i, seen.0)
     go (no over) = omega (arith, s.most, seen.0, seen.1)
 
-pub kept_on : (low k : ℕ) (top : Held) (stored : List Held) (f : Frame) (fs : List Frame) → k < length stored → SlotOf low (length fs) k → (In low (length fs) → Is top f) → Kept low stored fs → Kept low (set stored k top) (f ∷ fs)
+pub kept_on : (low k : ℕ) (top : Held) (stored : List Held) (f : Frame) (fs : List Frame) → k < length stored → SlotOf low (length fs) k → (In low (length fs) → frame_of top ≡ f) → Kept low stored fs → Kept low (set stored k top) (f ∷ fs)
 kept_on low k top stored f fs room s innermost kept = (
-  λ seen d. subst (λ (g : Held). Is g f) (sym (ap (λ (j : ℕ). get_or (set stored k top) j d) (sym (s.seen seen)) ∙ get_or-set_same stored k top d room)) (innermost seen),
+  λ seen d. subst (λ (g : Held). frame_of g ≡ f) (sym (ap (λ (j : ℕ). get_or (set stored k top) j d) (sym (s.seen seen)) ∙ get_or-set_same stored k top d room)) (innermost seen),
   kept_apart low k top stored fs (slot_apart low (length fs) k s) kept,
 )
 
@@ -105,7 +105,7 @@ module _ {low : ℕ} {puts : List Flat → List Flat} {w : Walk} {top : Held} {s
   refused_here stops l = nested-course any_depth (puts (e ∷ l)) ∙ ap closes (at-event l ∙ course_falls any_depth (within f fs) v (map read l) stops)
 
   module _ {height : ℕ} {r : Walk} (moved : Moved w v height r) {next : Held} {kept : List Held} where
-    pub taken_on : (g : Frame) (gs : List Frame) → step any_depth (within f fs) v ≡ taken (within g gs) → height ≡ length gs → (In low (length gs) → Is next g) → Kept low kept gs → Stands low (λ l. puts (e ∷ l)) r next kept
+    pub taken_on : (g : Frame) (gs : List Frame) → step any_depth (within f fs) v ≡ taken (within g gs) → height ≡ length gs → (In low (length gs) → frame_of next ≡ g) → Kept low kept gs → Stands low (λ l. puts (e ∷ l)) r next kept
     taken_on g gs goes tall innermost still =
         on g gs (record {
           goes = λ l. at-event l ∙ course_goes any_depth (within f fs) (within g gs) v (map read l) goes;
@@ -119,11 +119,11 @@ module _ {low : ℕ} {puts : List Flat → List Flat} {w : Walk} {top : Held} {s
     refused_on stops unseen high = off (record { height = length fs; falls = λ l. at-event l ∙ course_falls any_depth (within f fs) v (map read l) stops; unseen = unseen; most = omega (arith, o.tall, moved.grows) })
 
 -- ---- an event that was counted, in all that a pass knows
-long_on : (w r : Walk) (v : Event) (height : ℕ) (m : List Event) → Moved w v height r → w.length + length (spelled (around_of w) (v ∷ m)) ≡ r.length + length (spelled (around_of r) m)
+long_on : (w r : Walk) (v : Event) (height : ℕ) (m : List Event) → Moved w v height r → w.length + length (spelled w.around (v ∷ m)) ≡ r.length + length (spelled r.around m)
 unfolding spelled
 long_on w r v height m moved =
-    let parts = length-append (bytes_of (around_of w) v) (spelled (after (around_of w) v) m) in
-    let same : length (spelled (around_of r) m) ≡ length (spelled (after (around_of w) v) m) = ap (λ (k : Around). length (spelled k m)) moved.around in
+    let parts = length-append (bytes_of w.around v) (spelled (after w.around v) m) in
+    let same : length (spelled r.around m) ≡ length (spelled (after w.around v) m) = ap (λ (k : Around). length (spelled k m)) moved.around in
     omega (arith, parts, same, moved.long)
 
 pub record Counted (bytes : List ℕ) (i : ℕ) (feature : ℕ) (e : Flat) (v : Event) : Type 0 where
@@ -142,10 +142,10 @@ module _ {bytes : List ℕ} {low feature i : ℕ} {w : Walk} {top : Held} {store
     puts = λ l. a.puts (e ∷ l);
     listing = listed_on bytes i c.less (events_in bytes) a.puts a.listing e c.is;
     one = alike_on bytes i c.less feature (alike (records_in bytes) 0 bytes feature) a.one c.own;
-    long = λ l. a.long (e ∷ l) ∙ ap (λ (u : Event). w.length + length (spelled (around_of w) (u ∷ map read l))) c.reads ∙ long_on w r v height (map read l) moved;
+    long = λ l. a.long (e ∷ l) ∙ ap (λ (u : Event). w.length + length (spelled w.around (u ∷ map read l))) c.reads ∙ long_on w r v height (map read l) moved;
     high = moved.highest a.high;
     few = moved.most (i + 1) (omega (arith, a.few)) few;
-    short = omega (arith, a.short, moved.long, event_bound (around_of w) v);
+    short = omega (arith, a.short, moved.long, event_bound w.around v);
     stands = by_state a.stands;
   }
     where

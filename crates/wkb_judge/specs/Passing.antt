@@ -1,5 +1,5 @@
 -- What a pass over the list comes to, and what all passes do.
-use Rattle.std.specs.Prelude.{◌≡◌, Bool, true, false, not, ◌&&◌, List, map, ℕ, ◌+◌, ◌-◌, ◌/◌, ◌<◌, ◌≤◌, length}
+use Rattle.std.specs.Prelude.{Result, Ok, Err, ◌≡◌, Bool, true, false, not, ◌&&◌, List, map, ℕ, ◌+◌, ◌-◌, ◌/◌, ◌<◌, ◌≤◌, length}
 use Rattle.std.proofs.Math.Option.{none, some}
 use Rattle.kinds.specs.declared.event.Event.{Event as Flat}
 use Rattle.event_log.specs.Log.{records_in}
@@ -9,10 +9,10 @@ use Rattle.nesting.specs.Levels.{any_depth, sixteen}
 use Rattle.wkb_written.specs.Spelling.{outermost, spelled}
 use Rattle.wkb_written.specs.Writing.{listed, nested, events_in, one_feature}
 use Rattle.wkb_events.specs.Course.{reached, fell, course}
-use Rattle.wkb_judge.specs.declared.judge.Pass.{Pass}
-use Rattle.wkb_judge.specs.declared.judge.Pass.TheVariants.{Malformed, Fault, Sound}
-use Rattle.wkb_judge.specs.declared.judge.Judged.{Judged}
-use Rattle.wkb_judge.specs.declared.judge.Judged.TheVariants.{Malformed as NoEvents, NotNested, Nested}
+use Rattle.kinds.specs.declared.refusal.Refusal.{Refusal}
+use Rattle.kinds.specs.declared.refusal.Refusal.TheVariants.{Malformed, BadlyNested}
+use Rattle.wkb_events.specs.declared.walk.Walk.{Walk}
+use Rattle.wkb_judge.specs.declared.judge.Nested.{Nested}
 
 -- ---- the answer
 pub record Faulty (bytes : List ℕ) : Type 0 where
@@ -27,10 +27,14 @@ pub record Whole (bytes : List ℕ) (deep : Bool) (long : ℕ) : Type 0 where
   pub deep_is : deep ≡ not (nested sixteen events)
   pub long_is : long ≡ length (spelled outermost (map read events))
 
-abbrev pub JudgedOf : List ℕ → Judged → Type 0
-JudgedOf bytes NoEvents = events_in bytes ≡ none
-JudgedOf bytes NotNested = Faulty bytes
-JudgedOf bytes (Nested deep long) = Whole bytes deep long
+-- a list is malformed, or it has a fault
+pub data RefusedAs (bytes : List ℕ) : Refusal → Type 0 where
+  malformed : events_in bytes ≡ none → RefusedAs bytes Malformed
+  faulty : Faulty bytes → RefusedAs bytes BadlyNested
+
+abbrev pub JudgedOf : List ℕ → Result Nested Refusal → Type 0
+JudgedOf bytes (Ok n) = Whole bytes n.deep n.length
+JudgedOf bytes (Err e) = RefusedAs bytes e
 
 -- ---- one pass
 -- the heights of the window from `low` on
@@ -56,17 +60,11 @@ pub record Passed (bytes : List ℕ) (low highest : ℕ) (deep : Bool) (long : �
   pub long_is : long ≡ length (spelled outermost (map read events))
   pub ends : Ends events low highest deep
 
-abbrev pub PassOf : List ℕ → ℕ → Pass → Type 0
-PassOf bytes low Malformed = events_in bytes ≡ none
-PassOf bytes low Fault = Faulty bytes
-PassOf bytes low (Sound highest deep long) = Passed bytes low highest deep long
+abbrev pub PassOf : List ℕ → ℕ → Result Walk Refusal → Type 0
+PassOf bytes low (Ok w) = Passed bytes low w.highest w.deep w.length
+PassOf bytes low (Err e) = RefusedAs bytes e
 
--- what the records from one on come to, behind a fault
-pub record Later (bytes : List ℕ) (from : ℕ) : Type 0 where
-  pub events : List Flat
-  pub listing : listed (records_in bytes - from) from bytes ≡ some events
-
-abbrev pub LaterOf : List ℕ → ℕ → Pass → Type 0
-LaterOf bytes from Malformed = listed (records_in bytes - from) from bytes ≡ none
-LaterOf bytes from Fault = Later bytes from
-LaterOf bytes from (Sound highest deep long) = ⊥
+-- what the records from one on come to, behind a fault: one is malformed, or none is
+pub data LaterOf (bytes : List ℕ) (from : ℕ) : Refusal → Type 0 where
+  later_malformed : listed (records_in bytes - from) from bytes ≡ none → LaterOf bytes from Malformed
+  later_events : (events : List Flat) → listed (records_in bytes - from) from bytes ≡ some events → LaterOf bytes from BadlyNested

@@ -1,7 +1,7 @@
 -- The passes one above the other: an event that was refused stood at no height of those so far. And what a list that has no records, or no
 -- whole ones, comes to.
-use Rattle.std.specs.Prelude.{◌≡◌, refl, Bool, true, not, ◌&&◌, List, [], map, ℕ, ◌+◌, ◌/◌, ◌<◌, ◌≤◌, length}
-use Rattle.std.proofs.Common.{sym, ap, ◌∙◌, subst, arith}
+use Rattle.std.specs.Prelude.{◌≡◌, refl, Bool, true, not, List, [], map, ℕ, ◌+◌, ◌/◌, ◌<◌, ◌≤◌, length}
+use Rattle.std.proofs.Common.{sym, ap, subst, arith}
 use Rattle.std.proofs.Math.Bool.{and-false}
 use Rattle.std.proofs.Math.Option.{Option, some}
 use Rattle.std.proofs.Math.Decide.{dec_lt}
@@ -13,8 +13,7 @@ use Rattle.nesting.specs.Levels.{any_depth, sixteen}
 use Rattle.wkb_written.specs.Spelling.{outermost, spelled}
 use Rattle.wkb_written.specs.Writing.{listed, nested, events_in, one_feature}
 use Rattle.wkb_events.specs.Course.{Course, reached, fell, course}
-use Rattle.wkb_judge.specs.Passing.{Faulty, Whole, In, Ends, stood, beyond, Passed, PassOf}
-use Rattle.wkb_judge.specs.declared.judge.Pass.{Pass}
+use Rattle.wkb_judge.specs.Passing.{Faulty, In, Ends, stood, beyond, Passed}
 
 -- all events were taken, or one was refused at a height that no pass has judged yet
 pub data Left (events : List Flat) (low highest : ℕ) (deep : Bool) : Type 0 where
@@ -28,10 +27,6 @@ pub record Rising (bytes : List ℕ) (low highest : ℕ) (deep : Bool) (long : �
   pub few : highest ≤ length bytes / 64
   pub long_is : long ≡ length (spelled outermost (map read events))
   pub left : Left events low highest deep
-
--- a pass that came to one answer
-pub pass_as : (bytes : List ℕ) (low : ℕ) (t u : Pass) → PassOf bytes low t → t ≡ u → PassOf bytes low u
-pass_as bytes low t u h e = subst (λ (t : Pass). PassOf bytes low t) e h
 
 not_seen : (low height : ℕ) → (In low height → ⊥) → low ≤ height → low + 256 ≤ height
 not_seen low height unseen h = go (dec_lt height (low + 256))
@@ -68,13 +63,6 @@ one-passed {low = low} {highest = highest} {deep = deep} {most = most} {any = an
     go : Left r.events low highest deep → Left r.events (low + 256) highest deep
     go (closed good is) = closed good is
     go (above height is h k) = seen height is h k (subst (λ (l : List Flat). Ends l low most any) (same-events p.listing r.listing) p.ends)
-
-pub all-passed : {bytes : List ℕ} {low highest : ℕ} {deep : Bool} {long : ℕ} → Rising bytes low highest deep long → highest < low → Whole bytes deep long
-all-passed {bytes} {low} {highest} {deep} {long} r over = go r.left
-  where
-    go : Left r.events low highest deep → Whole bytes deep long
-    go (closed good is) = record { events = r.events; listing = r.listing; good = ap (λ (b : Bool). b && nested any_depth r.events) r.one ∙ good; deep_is = is; long_is = r.long_is }
-    go (above height is h k) = absurd (omega arith)
 
 -- ---- no records
 pub none_nested : (bytes : List ℕ) → length bytes ≡ 0 → Faulty bytes

@@ -1,6 +1,6 @@
 -- The records of a list one behind the other: what is listed from one on comes before what is listed from a later one on.
 use Rattle.std.specs.Prelude.{◌≡◌, refl, Bool, true, false, ◌&&◌, List, [], ◌∷◌, eqb, length, take, drop}
-use Rattle.std.proofs.Common.{sym, ◌∙◌, length-take, length-drop, length-take-le}
+use Rattle.std.proofs.Common.{sym, ◌∙◌, length-take, length-drop}
 use Rattle.std.proofs.Math.Path.{ap}
 use Rattle.std.proofs.Math.Option.{Option, none, some}
 use Prim.Native.Nat.{ℕ, zero, suc, ◌+◌, ◌-◌, ◌*◌, ◌/◌, ◌%◌, ◌<◌, ◌≤◌}
@@ -27,12 +27,6 @@ lifted-before puts e (some l) = refl
 -- the bytes of a record
 pub part_is : (bytes : List ℕ) (i : ℕ) → take (64 * i + 64 - 64 * i) (drop (64 * i) bytes) ≡ record_of bytes i
 part_is bytes i = let wide : 64 * i + 64 - 64 * i ≡ 64 = omega arith in ap (λ (n : ℕ). take n (drop (64 * i) bytes)) wide
-
-pub part_long : (bytes : List ℕ) (i : ℕ) → i < length bytes / 64 → length (take (64 * i + 64 - 64 * i) (drop (64 * i) bytes)) ≡ 64
-part_long bytes i h =
-    let wide : 64 * i + 64 - 64 * i ≡ 64 = omega arith in
-    let room : 64 ≤ length (drop (64 * i) bytes) = omega (arith, length-drop (64 * i) bytes) in
-    ap (λ (n : ℕ). length (take n (drop (64 * i) bytes))) wide ∙ length-take-le 64 (drop (64 * i) bytes) room
 
 pub whole_records : (bytes : List ℕ) → length bytes % 64 ≡ 0 → records_in bytes ≡ length bytes / 64
 whole_records bytes h = omega arith

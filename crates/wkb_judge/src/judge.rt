@@ -1,47 +1,26 @@
 // Whether a list's events are those of a geometry, at whatever depth. A pass keeps the frames of some heights only, so there are as many
 // passes as the depth needs: one, but for lists that go deeper than the window is high.
 ghost use Rattle.std.specs.Prelude.{◌≡◌, ◌%◌, ◌<◌, length};
-ghost use Rattle.wkb_judge.specs.Passing.{SlotOf, LaterOf, PassOf, Passed, JudgedOf};
+ghost use Rattle.wkb_judge.specs.Passing.{SlotOf, LaterOf, PassOf, JudgedOf};
 
 use crate::pairs::pairs_inside;
 use event_log::EVENT_BYTES;
+use kinds::refusal::Refusal;
 use nesting::Frame;
 use wkb_events::{Told, WKB, Walk, hear};
 
 // How many heights a pass keeps frames of.
 const WINDOW: usize = 256;
 
-// One slot more, for what lies outside the window: it is written, and nothing is judged by it.
+// One slot more, for what lies outside the window: it is written, and nothing is judged by it. So a slot is a number and no Option, which
+// would need a second way at each store and each load.
 const SLOTS: usize = 257;
 
-// What a slot holds before a frame is kept in it. It is a constant, since to check the repeat of a computed value takes many minutes, and not
-// all zero, so that no memset is called.
-const UNKEPT: Frame = Frame {
-    kind: 0,
-    tagged: false,
-    idx: 1,
-    size: 0,
-    done: 0,
-};
-
-// What one pass finds out. `Sound`: no fault at the heights of its window.
-#[derive(Clone, Copy)]
-pub enum Pass {
-    Malformed,
-    Fault,
-    Sound {
-        highest: usize,
-        deep: bool,
-        length: usize,
-    },
-}
-
-// What all passes find out. `deep`: some geometry stands deeper than level 16. `length`: so many bytes of well-known binary.
-#[derive(Clone, Copy)]
-pub enum Judged {
-    Malformed,
-    NotNested,
-    Nested { deep: bool, length: usize },
+// What a geometry's list comes to. `deep`: some geometry stands deeper than level 16. `length`: so many bytes of well-known binary.
+#[derive(Clone, Copy, Debug, PartialEq, Eq)]
+pub struct Nested {
+    pub deep: bool,
+    pub length: usize,
 }
 
 // Where a frame at a height is kept in a pass whose window starts at `low`.
@@ -51,55 +30,51 @@ fn slot(low: usize, height: usize) -> usize
     if height < low {
         return WINDOW;
     }
-    if WINDOW <= height - low {
-        return WINDOW;
-    }
-    height - low
+    (height - low).min(WINDOW)
 }
 
-// A list that has a fault is malformed all the same if a record from `from` on is.
-fn fault(events: &[u8], from: usize) -> Pass
+// What a list with a fault is refused with: it is malformed all the same if a record from `from` on is.
+fn fault(events: &[u8], from: usize) -> Refusal
     requires { length events.now % 64 ≡ 0 }
     ensures { LaterOf events.now from result }
 {
-    let whole = events.len() / EVENT_BYTES;
-    let mut i = from;
-    while i < whole {
+    for i in from..events.len() / EVENT_BYTES {
         let begin = EVENT_BYTES * i;
         let end = begin + EVENT_BYTES;
         if !event_log::is_event(&events[begin..end]) {
-            return Pass::Malformed;
+            return Refusal::Malformed;
         }
-        i += 1;
     }
-    Pass::Fault
+    Refusal::BadlyNested
 }
 
 // One pass, that judges what stands at the heights from `low` on, as many as the window is high.
-fn judge(events: &[u8], low: usize) -> Pass
+fn judge(events: &[u8], low: usize) -> Result<Walk, Refusal>
     requires { (0 < length events.now) × (length events.now % 64 ≡ 0) }
     ensures { PassOf events.now low result }
 {
     let whole = events.len() / EVENT_BYTES;
     let feature = event_log::feature_in(&events[0..EVENT_BYTES]);
-    let mut top = Frame::outside();
-    let mut stored = [UNKEPT; SLOTS];
-    let mut walk = Walk::start();
+    let mut top = Frame::OUTSIDE;
+    // Any frame would do: a slot is read only where one was kept in it, or where nothing is judged by it.
+    let mut stored = [Frame::OUTSIDE; SLOTS];
+    let mut walk = Walk::START;
     let mut i = 0;
+    // No `for`, since the pairs behind a begin are gone past at once.
     while i < whole {
         let begin = EVENT_BYTES * i;
         let end = begin + EVENT_BYTES;
-        let told = hear(&events[begin..end], feature);
+        let told = hear(&events[begin..end], feature)?;
         let height = walk.height;
         let k = slot(low, height);
+        i += 1;
         match told {
             Told::Pair { idx } => {
                 if (k < WINDOW) & !top.takes_pair(idx) {
-                    return fault(events, i + 1);
+                    return Err(fault(events, i));
                 }
                 top = top.one_more();
                 walk = walk.pair();
-                i += 1;
                 continue;
             }
             Told::Begin {
@@ -109,12 +84,11 @@ fn judge(events: &[u8], low: usize) -> Pass
                 idx,
             } => {
                 if (k < WINDOW) & !top.takes_begin(kind, tagged, size, idx, WKB) {
-                    return fault(events, i + 1);
+                    return Err(fault(events, i));
                 }
                 stored[k] = top;
                 top = Frame::begun(kind, tagged, size, idx);
                 walk = walk.begin(kind, tagged, size);
-                i += 1;
                 let pairs = pairs_inside(events, i, feature, top);
                 top.done = pairs;
                 walk = walk.pairs(pairs);
@@ -123,83 +97,41 @@ fn judge(events: &[u8], low: usize) -> Pass
             }
             Told::End { kind, tagged, idx } => {
                 if (height == 0) | ((k < WINDOW) & !top.takes_end(kind, tagged, idx)) {
-                    return fault(events, i + 1);
+                    return Err(fault(events, i));
                 }
-                let j = slot(low, height - 1);
-                let around = stored[j];
+                let around = stored[slot(low, height - 1)];
                 top = around.one_more();
                 walk = walk.end();
-                i += 1;
                 continue;
             }
             Told::Strange => {
-                return fault(events, i + 1);
-            }
-            Told::Malformed => {
-                return Pass::Malformed;
+                return Err(fault(events, i));
             }
         }
     }
     if (low == 0) & !((walk.height == 0) & (top.done == 1)) {
-        return Pass::Fault;
+        return Err(Refusal::BadlyNested);
     }
-    Pass::Sound {
-        highest: walk.highest,
-        deep: walk.deep,
-        length: walk.length,
-    }
+    Ok(walk)
 }
 
-// The passes for what stands above the first window, where the first pass found no fault.
-fn judge_higher(events: &[u8], highest: usize, deep: bool, bytes: usize) -> Judged
-    requires { (0 < length events.now) × (length events.now % 64 ≡ 0) × Passed events.now 0 highest deep bytes }
+// The whole answer: a list that is malformed anywhere is so before anything else, and one that has no records is no geometry's. Where the
+// first pass finds no fault, those above it judge what stands higher. Refused: 11, 21.
+pub fn judge_all(events: &[u8]) -> Result<Nested, Refusal>
     ensures { JudgedOf events.now result }
 {
-    let mut low = WINDOW;
-    while low <= highest {
-        let pass = judge(events, low);
-        match pass {
-            Pass::Malformed => {
-                return Judged::Malformed;
-            }
-            Pass::Fault => {
-                return Judged::NotNested;
-            }
-            Pass::Sound {
-                highest: _,
-                deep: _,
-                length: _,
-            } => {
-                low += WINDOW;
-                continue;
-            }
-        }
+    if events.len() % EVENT_BYTES != 0 {
+        return Err(Refusal::Malformed);
     }
-    Judged::Nested {
-        deep,
-        length: bytes,
+    if events.is_empty() {
+        return Err(Refusal::BadlyNested);
     }
-}
-
-// The whole answer: a list that is malformed anywhere is so before anything else, and one that has no records is no geometry's.
-pub fn judge_all(events: &[u8]) -> Judged
-    ensures { JudgedOf events.now result }
-{
-    let tail = events.len() % EVENT_BYTES;
-    if tail != 0 {
-        return Judged::Malformed;
+    let first = judge(events, 0)?;
+    for window in 1..first.highest / WINDOW + 1 {
+        judge(events, WINDOW * window)?;
     }
-    if events.len() == 0 {
-        return Judged::NotNested;
-    }
-    let first = judge(events, 0);
-    match first {
-        Pass::Malformed => Judged::Malformed,
-        Pass::Fault => Judged::NotNested,
-        Pass::Sound {
-            highest,
-            deep,
-            length,
-        } => judge_higher(events, highest, deep, length),
-    }
+    Ok(Nested {
+        deep: first.deep,
+        length: first.length,
+    })
 }

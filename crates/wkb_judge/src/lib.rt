@@ -4,4 +4,4 @@
 mod judge;
 mod pairs;
 
-pub use judge::{Judged, judge_all};
+pub use judge::{Nested, judge_all};

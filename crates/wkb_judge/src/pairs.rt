@@ -6,16 +6,6 @@ ghost use Rattle.wkb_judge.specs.Inside.{Inside};
 use event_log::EVENT_BYTES;
 use nesting::Frame;
 
-fn lesser(left: usize, size: u32) -> u32
-    ensures { (result ≤ left) × (result ≤ size) }
-{
-    if left < (size as usize) {
-        left as u32
-    } else {
-        size
-    }
-}
-
 // How many of the records from one on are the pairs, from the first on, that a frame takes which has none yet.
 pub fn pairs_inside(events: &[u8], from: usize, feature: u32, frame: Frame) -> u32
     requires { from ≤ length events.now / 64 }
@@ -24,17 +14,14 @@ pub fn pairs_inside(events: &[u8], from: usize, feature: u32, frame: Frame) -> u
     if !frame.takes_pair(0) {
         return 0;
     }
-    let last = lesser(events.len() / EVENT_BYTES - from, frame.size);
-    let mut next = from;
-    let mut idx: u32 = 0;
-    while idx < last {
-        let begin = EVENT_BYTES * next;
+    let left = events.len() / EVENT_BYTES - from;
+    let last = left.min(frame.size as usize) as u32;
+    for idx in 0..last {
+        let begin = EVENT_BYTES * (from + idx as usize);
         let end = begin + EVENT_BYTES;
         if !event_log::is_pair(&events[begin..end], feature, idx) {
-            break;
+            return idx;
         }
-        next += 1;
-        idx += 1;
     }
-    idx
+    last
 }

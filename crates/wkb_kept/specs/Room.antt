@@ -6,9 +6,12 @@ use Rattle.laws.specs.Bytes.{le}
 use Rattle.kinds.specs.Event.{Parsed, WellFormed, Malformed}
 use Rattle.kinds.specs.declared.event.Event.{Event}
 use Rattle.event_log.specs.Log.{heard, record_of, records_in}
-use Rattle.nesting.specs.Events.{GeometryType, Point, LineString, Polygon, MultiPoint, MultiLineString, MultiPolygon, Collection, Event as Read, begin, end, pair, strange}
+use Rattle.nesting.specs.declared.geometry_type.GeometryType.{GeometryType}
+use Rattle.nesting.specs.declared.geometry_type.GeometryType.TheVariants.{Point, LineString, Polygon, MultiPoint, MultiLineString, MultiPolygon, Collection}
+use Rattle.nesting.specs.Events.{Event as Read, begin, end, pair, strange}
 use Rattle.nesting.specs.Flat.{read}
-use Rattle.wkb_written.specs.Spelling.{Around, outermost, head_bytes, pair_of, after, begin_bytes, bytes_of, spelled}
+use Rattle.wkb_written.specs.declared.around.Around.{Around}
+use Rattle.wkb_written.specs.Spelling.{outermost, head_bytes, pair_of, after, begin_bytes, bytes_of, spelled}
 use Rattle.wkb_written.specs.Writing.{before, listed, events_in, writing}
 use Rattle.wkb_written.specs.Listed.{not_some}
 use Rattle.wkb_kept.specs.Means.{spelled-told, eleven, twelve}

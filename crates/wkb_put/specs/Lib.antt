@@ -1,3 +1,4 @@
+pub mod Output
 pub mod Put
 pub mod PutEvent
 pub mod PutLeft

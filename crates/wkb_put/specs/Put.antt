@@ -1,17 +1,14 @@
 -- The bytes that a list of records is spelled as, record by record: what one adds, what is left from one on, and the run of pairs at the front of that.
-use Rattle.std.specs.Prelude.{◌≡◌, Bool, not, cond, ◌&&◌, List, [], ◌∷◌, ◌++◌, map, ℕ, ◌+◌, ◌-◌, ◌≤◌, eqb, length}
+use Rattle.std.specs.Prelude.{◌≡◌, cond, List, [], ◌∷◌, ◌++◌, map, ℕ, ◌-◌, ◌≤◌, eqb}
 use Rattle.std.proofs.Math.Option.{Option, none, some}
-use Rattle.std.proofs.lemmas.List.Edits.{sets}
 use Rattle.kinds.specs.declared.event.Event.{Event}
 use Rattle.event_log.specs.Log.{records_in}
 use Rattle.nesting.specs.Flat.{read}
-use Rattle.wkb_written.specs.Spelling.{Around, outermost, pair_of, after, bytes_of, spelled}
+use Rattle.wkb_written.specs.declared.around.Around.{Around}
+use Rattle.wkb_written.specs.Spelling.{outermost, pair_of, after, bytes_of, spelled}
 use Rattle.wkb_written.specs.Writing.{listed, events_in}
-use Rattle.wkb_put.specs.declared.put.Around.{Around as Code}
-
--- what stands around an event, as the code has it
-abbrev pub around_of : Code → Around
-around_of k = record { rings = k.rings; points = k.points }
+use Rattle.wkb_put.specs.declared.output.Output.{Output}
+use Rattle.wkb_put.specs.Output.{Laid}
 
 -- what a record's event adds, and what stands around the next
 unfoldable pub laid_of : Around → Event → List ℕ
@@ -19,10 +16,6 @@ laid_of k e = bytes_of k (read e)
 
 unfoldable pub later_than : Around → Event → Around
 later_than k e = after k (read e)
-
--- a line that has no head
-abbrev pub is_ring : Around → Event → Bool
-is_ring k e = eqb e.kind 2 && k.rings && not e.tagged
 
 -- ---- a list of records, none of which is malformed
 abbrev pub or_none : Option (List Event) → List Event
@@ -51,10 +44,9 @@ unfoldable pub behind_run : List Event → List Event
 behind_run [] = []
 behind_run (e ∷ es) = cond (eqb e.kind 64) (behind_run es) (e ∷ es)
 
--- The run from record `from` on was laid down over L from `at` on: what is there then, and the record and the place behind it.
-pub record RunLaid (bytes : List ℕ) (from : ℕ) (L : List ℕ) (at : ℕ) (L' : List ℕ) (next end : ℕ) : Type 0 where
-  pub laid : L' ≡ sets L at (run_bytes (events_from bytes from))
-  pub place : end ≡ at + length (run_bytes (events_from bytes from))
+-- The run from record `from` on was laid down: the record behind it.
+pub record RunLaid (bytes : List ℕ) (from : ℕ) (a b : Output) (next : ℕ) : Type 0 where
+  pub laid : Laid a b (run_bytes (events_from bytes from))
   pub behind : events_from bytes next ≡ behind_run (events_from bytes from)
   pub heard : HeardFrom bytes next
   pub past : from ≤ next

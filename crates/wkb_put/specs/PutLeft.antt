@@ -15,11 +15,14 @@ use Rattle.kinds.specs.Event.{Parsed, WellFormed, Malformed}
 use Rattle.kinds.specs.declared.event.Event.{Event}
 use Rattle.event_log.specs.Log.{heard, record_of, records_in}
 use Rattle.event_log.specs.LogLaws.{not_whole}
-use Rattle.nesting.specs.Flat.{is_type, read_as, read}
-use Rattle.wkb_written.specs.Spelling.{Around, outermost, pair_of, after, bytes_of, spelled}
+use Rattle.nesting.specs.Flat.{read}
+use Rattle.wkb_written.specs.declared.around.Around.{Around}
+use Rattle.wkb_written.specs.Spelling.{outermost, pair_of, spelled}
 use Rattle.wkb_written.specs.Writing.{before, listed, events_in}
 use Rattle.wkb_put.specs.Put.{laid_of, later_than, or_none, heard_events, spelled_of, events_from, HeardFrom, run_bytes, behind_run, RunLaid}
-use Rattle.wkb_put.specs.PutEvent.{laid-pair, later_same}
+use Rattle.wkb_put.specs.PutEvent.{laid-pair, later-pair}
+use Rattle.wkb_put.specs.declared.output.Output.{Output}
+use Rattle.wkb_put.specs.Output.{Laid}
 
 -- ---- the next record of a list that is heard whole
 pub record NextHeard (bytes : List ℕ) (i : ℕ) : Type 0 where
@@ -73,9 +76,11 @@ module _ (bytes : List ℕ) (i : ℕ) where
 
 -- ---- a run of pairs
 -- what is left of a run, from a record and a place on, comes to the whole of it
-pub record RunLeft (bytes : List ℕ) (from : ℕ) (L : List ℕ) (at : ℕ) (L' : List ℕ) (next end : ℕ) : Type 0 where
-  pub comes : sets L' end (run_bytes (events_from bytes next)) ≡ sets L at (run_bytes (events_from bytes from))
-  pub place : end + length (run_bytes (events_from bytes next)) ≡ at + length (run_bytes (events_from bytes from))
+pub record RunLeft (bytes : List ℕ) (from : ℕ) (a b : Output) (next : ℕ) : Type 0 where
+  pub memory : b.bytes.ghost_name ≡ a.bytes.ghost_name
+  pub long : length b.bytes.now ≡ length a.bytes.now
+  pub comes : sets b.bytes.now b.at (run_bytes (events_from bytes next)) ≡ sets a.bytes.now a.at (run_bytes (events_from bytes from))
+  pub place : b.at + length (run_bytes (events_from bytes next)) ≡ a.at + length (run_bytes (events_from bytes from))
   pub behind : behind_run (events_from bytes next) ≡ behind_run (events_from bytes from)
   pub heard : HeardFrom bytes next
   pub past : from ≤ next
@@ -100,27 +105,27 @@ behind_other e es h = ap (λ (b : Bool). cond b (behind_run es) (e ∷ es)) (ne_
 pub rest_of : {L L' : List ℕ} (l b rest : List ℕ) (at : ℕ) → L ≡ sets l at b → sets l at (b ++ rest) ≡ L' → sets L (at + length b) rest ≡ L'
 rest_of l b rest at h w = ap (λ (x : List ℕ). sets x (at + length b) rest) h ∙ sets-append b rest l at ∙ w
 
-module _ (bytes : List ℕ) (from : ℕ) (L : List ℕ) (at : ℕ) where
-  pub run_began : HeardFrom bytes from → RunLeft bytes from L at L from at
-  run_began h = record { comes = refl; place = refl; behind = refl; heard = h; past = omega arith }
-
-  run_ends : {L' : List ℕ} {next end : ℕ} → RunLeft bytes from L at L' next end → run_bytes (events_from bytes next) ≡ [] → behind_run (events_from bytes next) ≡ events_from bytes next
-      → RunLaid bytes from L at L' next end
-  run_ends {L'} {next} {end} r empty same = record {
-    laid = ap (sets L' end) (sym empty) ∙ r.comes;
-    place = omega (arith, ap length empty, r.place);
+module _ {bytes : List ℕ} {from : ℕ} {a : Output} where
+  run_ends : {b : Output} {next : ℕ} → RunLeft bytes from a b next → run_bytes (events_from bytes next) ≡ [] → behind_run (events_from bytes next) ≡ events_from bytes next → RunLaid bytes from a b next
+  run_ends {b} {next} r empty same = record {
+    laid = record {
+      memory = r.memory;
+      laid = ap (sets b.bytes.now b.at) (sym empty) ∙ r.comes;
+      place = omega (arith, ap length empty, r.place);
+      long = r.long;
+    };
     behind = sym same ∙ r.behind;
     heard = r.heard;
     past = r.past;
   }
 
   -- there is no record left
-  pub run_ended : {L' : List ℕ} {next end : ℕ} → length bytes / 64 ≤ next → RunLeft bytes from L at L' next end → RunLaid bytes from L at L' next end
+  pub run_ended : {b : Output} {next : ℕ} → length bytes / 64 ≤ next → RunLeft bytes from a b next → RunLaid bytes from a b next
   unfolding run_bytes behind_run
   run_ended {next = next} more r = let gone = none_left bytes next more r.heard in run_ends r (ap run_bytes gone) (ap behind_run gone ∙ sym gone)
 
   -- the next record is a pair
-  module _ (L' : List ℕ) (next end : ℕ) (e : Event) (less : next < length bytes / 64) (r : RunLeft bytes from L at L' next end)
+  module _ {b : Output} {next : ℕ} {e : Event} (less : next < length bytes / 64) (r : RunLeft bytes from a b next)
       (is : (v : Event) → heard (record_of bytes next) ≡ WellFormed v → e ≡ v) where
     ahead : events_from bytes next ≡ e ∷ events_from bytes (next + 1)
     ahead = let n = next-heard bytes next (omega arith) r.heard in n.events ∙ ap (λ (v : Event). v ∷ events_from bytes (next + 1)) (sym (is n.event n.is))
@@ -131,20 +136,23 @@ module _ (bytes : List ℕ) (from : ℕ) (L : List ℕ) (at : ℕ) where
     run_length : e.kind ≡ 64 → length (run_bytes (events_from bytes next)) ≡ 16 + length (run_bytes (events_from bytes (next + 1)))
     run_length pair = ap length (run_ahead pair) ∙ length-append (pair_of e.x e.y) (run_bytes (events_from bytes (next + 1)))
 
-    pub pair-room : e.kind ≡ 64 → end + 16 ≤ at + length (run_bytes (events_from bytes from))
+    pub pair-room : e.kind ≡ 64 → b.at + 16 ≤ a.at + length (run_bytes (events_from bytes from))
     pair-room pair = omega (arith, run_length pair, r.place)
 
-    pub run_on : {L'' : List ℕ} → e.kind ≡ 64 → L'' ≡ sets L' end (pair_of e.x e.y) → RunLeft bytes from L at L'' (next + 1) (end + 16)
-    run_on pair laid = record {
-      comes = rest_of L' (pair_of e.x e.y) (run_bytes (events_from bytes (next + 1))) end laid (ap (sets L' end) (sym (run_ahead pair)) ∙ r.comes);
-      place = omega (arith, run_length pair, r.place);
+    pub run_on : {c : Output} → e.kind ≡ 64 → Laid b c (pair_of e.x e.y) → RunLeft bytes from a c (next + 1)
+    run_on {c} pair h = record {
+      memory = h.memory ∙ r.memory;
+      long = h.long ∙ r.long;
+      comes = ap (λ (n : ℕ). sets c.bytes.now n (run_bytes (events_from bytes (next + 1)))) h.place
+          ∙ rest_of b.bytes.now (pair_of e.x e.y) (run_bytes (events_from bytes (next + 1))) b.at h.laid (ap (sets b.bytes.now b.at) (sym (run_ahead pair)) ∙ r.comes);
+      place = omega (arith, run_length pair, h.place, r.place);
       behind = sym (ap behind_run ahead ∙ behind_pair e (events_from bytes (next + 1)) pair) ∙ r.behind;
       heard = (next-heard bytes next (omega arith) r.heard).later;
       past = omega (arith, r.past);
     }
 
     -- it is another event
-    pub run-stopped : (e.kind ≡ 64 → ⊥) → RunLaid bytes from L at L' next end
+    pub run-stopped : (e.kind ≡ 64 → ⊥) → RunLaid bytes from a b next
     run-stopped other =
         run_ends r (ap run_bytes ahead ∙ run-other e (events_from bytes (next + 1)) other) (ap behind_run ahead ∙ behind_other e (events_from bytes (next + 1)) other ∙ sym ahead)
 
@@ -153,9 +161,10 @@ module _ (bytes : List ℕ) (from : ℕ) (L : List ℕ) (at : ℕ) where
 unfoldable pub spelled_from : Around → List ℕ → ℕ → List ℕ
 spelled_from k bytes i = spelled k (map read (events_from bytes i))
 
-pub record Left (bytes L : List ℕ) (k : Around) (L' : List ℕ) (next at : ℕ) : Type 0 where
-  pub comes : sets L' at (spelled_from k bytes next) ≡ sets L 0 (spelled_of bytes)
-  pub place : at + length (spelled_from k bytes next) ≡ length (spelled_of bytes)
+pub record Left (bytes L : List ℕ) (k : Around) (o : Output) (next : ℕ) : Type 0 where
+  pub comes : sets o.bytes.now o.at (spelled_from k bytes next) ≡ sets L 0 (spelled_of bytes)
+  pub place : o.at + length (spelled_from k bytes next) ≡ length (spelled_of bytes)
+  pub long : length o.bytes.now ≡ length L
   pub heard : HeardFrom bytes next
 
 -- an event by itself, and a run of pairs that are no Points, before the others
@@ -173,28 +182,29 @@ run-first k bare (e ∷ es) = go (eqb e.kind 64) refl (run-first k bare es)
     go true pair later =
         let kind = eqb-true e.kind 64 pair in
         one-first k e es
-        ∙ ap₂ (λ (b : List ℕ) (k : Around). b ++ spelled k (map read es)) (laid-pair k e kind bare) (sym (later_same k e (ap is_type kind)))
+        ∙ ap₂ (λ (b : List ℕ) (k : Around). b ++ spelled k (map read es)) (laid-pair k e kind bare) (sym (later-pair k e kind))
         ∙ ap (λ (l : List ℕ). pair_of e.x e.y ++ l) later
         ∙ sym (append_assoc (pair_of e.x e.y) (run_bytes es) (spelled k (map read (behind_run es))))
     go false pair later = refl
 
-module _ (bytes L : List ℕ) where
-  pub began : events_in bytes ≡ some (heard_events bytes) → Left bytes L outermost L 0 0
+module _ {bytes L : List ℕ} where
+  pub began : {o : Output} → events_in bytes ≡ some (heard_events bytes) → o.bytes.now ≡ L → o.at ≡ 0 → Left bytes L outermost o 0
   unfolding HeardFrom events_from heard_events spelled_from spelled_of
-  began h =
+  began {o} h memory start =
       let all : events_from bytes 0 ≡ heard_events bytes = ap (λ (n : ℕ). or_none (listed n 0 bytes)) (sub-zero (records_in bytes)) in
       record {
-        comes = ap (λ (es : List Event). sets L 0 (spelled outermost (map read es))) all;
-        place = omega (arith, ap (λ (es : List Event). length (spelled outermost (map read es))) all);
+        comes = ap₂ (λ (l : List ℕ) (n : ℕ). sets l n (spelled_from outermost bytes 0)) memory start ∙ ap (λ (es : List Event). sets L 0 (spelled outermost (map read es))) all;
+        place = omega (arith, start, ap (λ (es : List Event). length (spelled outermost (map read es))) all);
+        long = ap length memory;
         heard = ap (λ (n : ℕ). listed n 0 bytes) (sub-zero (records_in bytes)) ∙ h ∙ ap some (sym all);
       }
 
-  pub ended : {k : Around} {L' : List ℕ} {next at : ℕ} → length bytes / 64 ≤ next → Left bytes L k L' next at → L' ≡ sets L 0 (spelled_of bytes)
+  pub ended : {k : Around} {o : Output} {next : ℕ} → length bytes / 64 ≤ next → Left bytes L k o next → o.bytes.now ≡ sets L 0 (spelled_of bytes)
   unfolding spelled_from spelled
-  ended {k} {L'} {next} {at} more r = ap (λ (es : List Event). sets L' at (spelled k (map read es))) (sym (none_left bytes next more r.heard)) ∙ r.comes
+  ended {k} {o} {next} more r = ap (λ (es : List Event). sets o.bytes.now o.at (spelled k (map read es))) (sym (none_left bytes next more r.heard)) ∙ r.comes
 
   -- an event by itself was laid down
-  module _ (k : Around) (L' : List ℕ) (next at : ℕ) (e : Event) (less : next < length bytes / 64) (r : Left bytes L k L' next at)
+  module _ {k : Around} {o : Output} {next : ℕ} {e : Event} (less : next < length bytes / 64) (r : Left bytes L k o next)
       (is : (v : Event) → heard (record_of bytes next) ≡ WellFormed v → e ≡ v) where
     event-first : spelled_from k bytes next ≡ laid_of k e ++ spelled_from (later_than k e) bytes (next + 1)
     unfolding spelled_from
@@ -206,32 +216,36 @@ module _ (bytes L : List ℕ) where
     event-length : length (spelled_from k bytes next) ≡ length (laid_of k e) + length (spelled_from (later_than k e) bytes (next + 1))
     event-length = ap length event-first ∙ length-append (laid_of k e) (spelled_from (later_than k e) bytes (next + 1))
 
-    pub event-room : at + length (laid_of k e) ≤ length (spelled_of bytes)
+    pub event-room : o.at + length (laid_of k e) ≤ length (spelled_of bytes)
     event-room = omega (arith, event-length, r.place)
 
-    pub event_on : {k' : Around} {L'' : List ℕ} {end : ℕ} → k' ≡ later_than k e → L'' ≡ sets L' at (laid_of k e) → end ≡ at + length (laid_of k e) → Left bytes L k' L'' (next + 1) end
-    event_on {L'' = L''} later laid place = rw (later, place) (record {
-      comes = rest_of L' (laid_of k e) (spelled_from (later_than k e) bytes (next + 1)) at laid (ap (sets L' at) (sym event-first) ∙ r.comes);
-      place = omega (arith, event-length, r.place);
+    pub event_on : {k' : Around} {o' : Output} → k' ≡ later_than k e → Laid o o' (laid_of k e) → Left bytes L k' o' (next + 1)
+    event_on {o' = o'} later h = rw later (record {
+      comes = ap (λ (n : ℕ). sets o'.bytes.now n (spelled_from (later_than k e) bytes (next + 1))) h.place
+          ∙ rest_of o.bytes.now (laid_of k e) (spelled_from (later_than k e) bytes (next + 1)) o.at h.laid (ap (sets o.bytes.now o.at) (sym event-first) ∙ r.comes);
+      place = omega (arith, event-length, h.place, r.place);
+      long = h.long ∙ r.long;
       heard = (next-heard bytes next (omega arith) r.heard).later;
     })
 
   -- a run of pairs was laid down
-  module _ (k : Around) (L' : List ℕ) (next at : ℕ) (bare : k.points ≡ false) (r : Left bytes L k L' next at) where
+  module _ {k : Around} {o : Output} {next : ℕ} (bare : k.points ≡ false) (r : Left bytes L k o next) where
     pairs-length : length (spelled_from k bytes next) ≡ length (run_bytes (events_from bytes next)) + length (spelled k (map read (behind_run (events_from bytes next))))
     unfolding spelled_from
     pairs-length = ap length (run-first k bare (events_from bytes next)) ∙ length-append (run_bytes (events_from bytes next)) (spelled k (map read (behind_run (events_from bytes next))))
 
-    pub pairs-room : at + length (run_bytes (events_from bytes next)) ≤ length (spelled_of bytes)
+    pub pairs-room : o.at + length (run_bytes (events_from bytes next)) ≤ length (spelled_of bytes)
     pairs-room = omega (arith, pairs-length, r.place)
 
-    pub pairs_on_lem : {L'' : List ℕ} {next' end : ℕ} → RunLaid bytes next L' at L'' next' end → Left bytes L k L'' next' end
+    pub pairs_on : {o' : Output} {next' : ℕ} → RunLaid bytes next o o' next' → Left bytes L k o' next'
     unfolding spelled_from
-    pairs_on_lem {L''} {next'} {end} ran =
+    pairs_on {o'} {next'} ran =
         let behind : spelled_from k bytes next' ≡ spelled k (map read (behind_run (events_from bytes next))) = ap (λ (es : List Event). spelled k (map read es)) ran.behind in
-        rw ran.place (record {
-          comes = rest_of L' (run_bytes (events_from bytes next)) (spelled_from k bytes next') at ran.laid
-              (ap (λ (l : List ℕ). sets L' at (run_bytes (events_from bytes next) ++ l)) behind ∙ ap (sets L' at) (sym (run-first k bare (events_from bytes next))) ∙ r.comes);
-          place = omega (arith, ap length behind, pairs-length, r.place);
+        record {
+          comes = ap (λ (n : ℕ). sets o'.bytes.now n (spelled_from k bytes next')) ran.laid.place
+              ∙ rest_of o.bytes.now (run_bytes (events_from bytes next)) (spelled_from k bytes next') o.at ran.laid.laid
+              (ap (λ (l : List ℕ). sets o.bytes.now o.at (run_bytes (events_from bytes next) ++ l)) behind ∙ ap (sets o.bytes.now o.at) (sym (run-first k bare (events_from bytes next))) ∙ r.comes);
+          place = omega (arith, ap length behind, pairs-length, ran.laid.place, r.place);
+          long = ran.laid.long ∙ r.long;
           heard = ran.heard;
-        })
+        }

@@ -1,4 +1,8 @@
 pub mod Reading
+pub mod Fields
 pub mod Onward
 pub mod Parts
-pub mod Heads
+pub mod GroupLaws
+pub mod HeadLaws
+pub mod KindLaws
+pub mod WholeLaws

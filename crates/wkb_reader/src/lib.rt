@@ -2,10 +2,10 @@
 #![tactic(auto)]
 
 mod geometry;
+mod group;
 mod head;
+mod input;
 mod lines;
 mod members;
-mod pairs;
-mod simple;
 
 pub use geometry::read_wkb;

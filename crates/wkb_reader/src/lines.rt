@@ -1,94 +1,92 @@
-// Lines and polygons behind their heads, and rings, which have none.
-ghost use Rattle.std.specs.Prelude.{◌≤◌, length, false};
-ghost use Rattle.wkb_reader.specs.Reading.{line_r, polygon_r, several};
+// What has no head of its own: pairs, and rings, lines and polygons behind theirs.
+ghost use Rattle.wkb_reader.specs.Reading.{pair_r, line_r, polygon_r, point_r};
 ghost use Rattle.wkb_reader.specs.Onward.{Leads};
+ghost use Rattle.std.specs.Prelude.{false};
 
-use crate::pairs::{Reached, read_begin, read_pairs, say_end};
-use kinds::{geometry_type, refusal};
+use crate::group::{Group, Things, read_group};
+use crate::input::Input;
+use event_log::EventLog;
+use kinds::event::Event;
+use kinds::geometry_type;
+use kinds::refusal::Refusal;
 use wkb::Order;
 
+// The pairs of a line.
+#[derive(Clone, Copy)]
+pub struct Pairs {
+    pub order: Order,
+}
+
+// The rings of a polygon: untagged lines.
+#[derive(Clone, Copy)]
+pub struct Rings {
+    pub order: Order,
+}
+
+impl Things for Pairs {
+    ghost thing = { λ p. pair_r p.order };
+
+    fn read(&self, idx: u32, input: &mut Input, log: &mut EventLog) -> Result<(), Refusal> {
+        let x = input.u64(self.order)?;
+        let y = input.u64(self.order)?;
+        log.say(Event::xy(x, y, idx))
+    }
+}
+
+impl Things for Rings {
+    ghost thing = { λ r. line_r r.order false };
+
+    fn read(&self, idx: u32, input: &mut Input, log: &mut EventLog) -> Result<(), Refusal> {
+        read_line(self.order, false, idx, input, log)
+    }
+}
+
 pub fn read_line(
-    log: &mut [u8],
-    feature: u32,
-    count: usize,
-    bytes: &[u8],
-    at: usize,
     order: Order,
     tagged: bool,
     idx: u32,
-) -> Reached
-    requires { at ≤ length bytes.now }
-    ensures { let l = bytes.now in
-        Leads feature l (line_r order tagged idx) at log.old count result.number result.count result.at log.new × (result.at ≤ length l) }
+    input: &mut Input,
+    log: &mut EventLog,
+) -> Result<(), Refusal>
+    ensures { Leads (line_r order tagged idx) log.old input.old log.new input.new result }
 {
-    let kind = geometry_type::LINE_STRING;
-    let b = read_begin(log, feature, count, bytes, at, order, kind, tagged, idx);
-    if b.number != refusal::DONE {
-        return Reached {
-            number: b.number,
-            count: b.count,
-            at: b.at,
-        };
-    }
-    let r = read_pairs(log, feature, b.count, bytes, b.at, order, b.size);
-    say_end(log, feature, bytes, r, kind, tagged, idx)
-}
-
-fn read_rings(
-    log: &mut [u8],
-    feature: u32,
-    count: usize,
-    bytes: &[u8],
-    at: usize,
-    order: Order,
-    size: u32,
-) -> Reached
-    requires { at ≤ length bytes.now }
-    ensures { let l = bytes.now in
-        Leads feature l (several (line_r order false) size 0) at log.old count result.number result.count result.at log.new × (result.at ≤ length l) }
-{
-    let mut said = count;
-    let mut from = at;
-    let mut i: u32 = 0;
-    while i < size {
-        let r = read_line(log, feature, said, bytes, from, order, false, i);
-        if r.number != refusal::DONE {
-            return r;
-        }
-        said = r.count;
-        from = r.at;
-        i += 1;
-    }
-    Reached {
-        number: refusal::DONE,
-        count: said,
-        at: from,
-    }
+    let line = Group {
+        order,
+        kind: geometry_type::LINE_STRING,
+        tagged,
+        idx,
+    };
+    read_group(&Pairs { order }, line, input, log)
 }
 
 pub fn read_polygon(
-    log: &mut [u8],
-    feature: u32,
-    count: usize,
-    bytes: &[u8],
-    at: usize,
     order: Order,
     tagged: bool,
     idx: u32,
-) -> Reached
-    requires { at ≤ length bytes.now }
-    ensures { let l = bytes.now in
-        Leads feature l (polygon_r order tagged idx) at log.old count result.number result.count result.at log.new × (result.at ≤ length l) }
+    input: &mut Input,
+    log: &mut EventLog,
+) -> Result<(), Refusal>
+    ensures { Leads (polygon_r order tagged idx) log.old input.old log.new input.new result }
 {
-    let kind = geometry_type::POLYGON;
-    let b = read_begin(log, feature, count, bytes, at, order, kind, tagged, idx);
-    if b.number != refusal::DONE {
-        return Reached {
-            number: b.number,
-            count: b.count,
-            at: b.at,
-        };
-    }
-    let r = read_rings(log, feature, b.count, bytes, b.at, order, b.size);
-    say_end(log, feature, bytes, r, kind, tagged, idx)
+    let polygon = Group {
+        order,
+        kind: geometry_type::POLYGON,
+        tagged,
+        idx,
+    };
+    read_group(&Rings { order }, polygon, input, log)
+}
+
+// A Point's begin is said before its x is looked at.
+pub fn read_point(
+    order: Order,
+    idx: u32,
+    input: &mut Input,
+    log: &mut EventLog,
+) -> Result<(), Refusal>
+    ensures { Leads (point_r order idx) log.old input.old log.new input.new result }
+{
+    log.say(Event::begin(geometry_type::POINT, false, 0, idx))?;
+    Pairs { order }.read(0, input, log)?;
+    log.say(Event::end(geometry_type::POINT, false, idx))
 }

@@ -3,16 +3,15 @@ use Rattle.std.specs.Prelude.{◌≡◌, refl, Bool, true, false, not, List, map
 use Rattle.std.proofs.Common.{sym, ◌∙◌, le-leb}
 use Rattle.std.proofs.Math.Path.{ap}
 use Rattle.std.proofs.Math.Bool.{cond}
-use Rattle.std.proofs.Math.Option.{Option}
+use Rattle.std.proofs.Math.Option.{Option, none}
 use Rattle.std.proofs.lemmas.Bool.{lt-leb}
 use Rattle.kinds.specs.declared.event.Event.{Event as Flat}
 use Rattle.nesting.specs.Flat.{read}
 use Rattle.nesting.specs.Levels.{sixteen}
 use Rattle.event_log.specs.Log.{records_in}
 use Rattle.wkb_written.specs.Spelling.{outermost, spelled}
-use Rattle.wkb_written.specs.Writing.{listed, one_feature, nested, refused_with, if_room, written_of, writing}
-use Rattle.wkb_judge.specs.Passing.{JudgedOf}
-use Rattle.wkb_judge.specs.declared.judge.Judged.TheVariants.{Malformed, NotNested, Nested}
+use Rattle.wkb_written.specs.Writing.{listed, events_in, one_feature, nested, refused_with, if_room, written_of, writing}
+use Rattle.wkb_judge.specs.Passing.{Faulty, Whole}
 
 module _ (bytes : List ℕ) (room : ℕ) where
   -- `writing` goes by the events that are listed
@@ -20,17 +19,17 @@ module _ (bytes : List ℕ) (room : ℕ) where
   unfolding writing
   listed_as o h = ap (λ (o : Option (List Flat)). written_of o (one_feature bytes) room) h
 
-  pub malformed-written : JudgedOf bytes Malformed → writing bytes room ≡ refused_with 11
+  pub malformed-written : events_in bytes ≡ none → writing bytes room ≡ refused_with 11
   unfolding written_of
   malformed-written h = listed_as _ h
 
-  pub not_nested_written : JudgedOf bytes NotNested → writing bytes room ≡ refused_with 21
+  pub not_nested_written : Faulty bytes → writing bytes room ≡ refused_with 21
   unfolding written_of
   not_nested_written f =
       listed_as _ f.listing
       ∙ ap (λ (b : Bool). cond b (cond (nested sixteen f.events) (if_room room (spelled outermost (map read f.events))) (refused_with 13)) (refused_with 21)) f.bad
 
-  module _ {deep : Bool} {long : ℕ} (w : JudgedOf bytes (Nested deep long)) where
+  module _ {deep : Bool} {long : ℕ} (w : Whole bytes deep long) where
     by-depth : writing bytes room ≡ cond (nested sixteen w.events) (if_room room (spelled outermost (map read w.events))) (refused_with 13)
     unfolding written_of
     by-depth =

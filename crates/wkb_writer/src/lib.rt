@@ -3,4 +3,4 @@
 
 mod write;
 
-pub use write::{Wrote, write_wkb};
+pub use write::write_wkb;

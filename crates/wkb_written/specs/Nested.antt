@@ -9,7 +9,9 @@ use Rattle.planar.specs.Geometry.{Line, Rings, Simple, point, line_string, polyg
 use Rattle.planar.specs.Within.{planar_events}
 use Rattle.planar.specs.Fits.{Each, Row, FitsCoord, FitsLine, FitsRings, FitsSimple, Fits}
 use Rattle.planar.specs.Levels.{levels}
-use Rattle.nesting.specs.Events.{GeometryType, MultiPoint, MultiLineString, MultiPolygon, Collection, Event, begin, end, pair, strange}
+use Rattle.nesting.specs.declared.geometry_type.GeometryType.{GeometryType}
+use Rattle.nesting.specs.declared.geometry_type.GeometryType.TheVariants.{MultiPoint, MultiLineString, MultiPolygon, Collection}
+use Rattle.nesting.specs.Events.{Event, begin, end, pair, strange}
 use Rattle.nesting.specs.Rules.{Rules, limit, PairRule, LineRule, RingsRule, Clear, SimpleRule, GeometryRule}
 use Rattle.nesting.specs.Machine.{Frame, frame, outside, within, start, closed, Answer, taken, refused, count, Place, here, too_deep, nowhere, place, one_more, begin_fits, end_fits, pair_fits, begin_at, end_at, step, and_then, run}
 use Rattle.nesting.specs.Flat.{read}

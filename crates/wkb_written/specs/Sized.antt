@@ -6,7 +6,9 @@ use Rattle.kinds.specs.declared.event.Event.{Event as Flat}
 use Rattle.planar.specs.Geometry.{Coord, point, line_string, polygon, multi_point, multi_line_string, multi_polygon, simple, collection, Geometry}
 use Rattle.planar.specs.Within.{planar_events}
 use Rattle.planar.specs.Fits.{Each, Row, FitsCoord, FitsLine, FitsRings, FitsSimple, Fits}
-use Rattle.nesting.specs.Events.{GeometryType, Point, LineString, Polygon, MultiPoint, MultiLineString, MultiPolygon, Collection, Event, begin, end, pair, Tells, each, group, coord_of, line_of, rings_of, simple_of, geometry_of, events_of}
+use Rattle.nesting.specs.declared.geometry_type.GeometryType.{GeometryType}
+use Rattle.nesting.specs.declared.geometry_type.GeometryType.TheVariants.{Point, LineString, Polygon, MultiPoint, MultiLineString, MultiPolygon, Collection}
+use Rattle.nesting.specs.Events.{Event, begin, end, pair, Tells, each, group, coord_of, line_of, rings_of, simple_of, geometry_of, events_of}
 use Rattle.nesting.specs.Rules.{limit, limit64}
 use Rattle.nesting.specs.Flat.{read, flat}
 use Rattle.nesting.specs.FlatEvents.{events-flat}

@@ -1,12 +1,10 @@
 -- Events as well-known binary, little-endian, one behind the other: what each adds goes by its own fields and by what it stands in.
 use Rattle.std.specs.Prelude.{Bool, true, false, not, cond, ◌&&◌, List, [], ◌∷◌, ◌++◌, ℕ}
 use Rattle.laws.specs.Bytes.{le}
-use Rattle.nesting.specs.Events.{GeometryType, Point, LineString, Polygon, MultiPoint, MultiLineString, MultiPolygon, Collection, Event, begin, end, pair, strange}
-
--- A line inside a Polygon is a ring, which has no head; a pair inside a MultiPoint is a Point, which has one.
-pub record Around : Type 0 where
-  pub rings : Bool
-  pub points : Bool
+use Rattle.nesting.specs.declared.geometry_type.GeometryType.{GeometryType}
+use Rattle.nesting.specs.declared.geometry_type.GeometryType.TheVariants.{Point, LineString, Polygon, MultiPoint, MultiLineString, MultiPolygon, Collection}
+use Rattle.wkb_written.specs.declared.around.Around.{Around}
+use Rattle.nesting.specs.Events.{Event, begin, end, pair, strange}
 
 abbrev pub outermost : Around
 outermost = record { rings = false; points = false }

@@ -6,8 +6,11 @@ use Rattle.laws.specs.Bytes.{le}
 use Rattle.planar.specs.Geometry.{Coord, Line, Rings, Simple, point, line_string, polygon, multi_point, multi_line_string, multi_polygon, simple, collection, Geometry}
 use Rattle.wkb.specs.Wkb.{Lays, uint32, head, pair_bytes, joined, ring_bytes, joined_in, wkb_point, wkb_line_string, wkb_polygon, own, Orders, wkb_simple, wkb, for_each, little_own, little_simple, little, little_bytes}
 use Rattle.wkb.specs.declared.order.Order.TheVariants.{Little}
-use Rattle.nesting.specs.Events.{GeometryType, Point, LineString, Polygon, MultiPoint, MultiLineString, MultiPolygon, Collection, Event, begin, end, pair, strange, Tells, each, group, coord_of, line_of, rings_of, simple_of, geometry_of, events_of}
-use Rattle.wkb_written.specs.Spelling.{Around, outermost, head_bytes, pair_of, after, begin_bytes, bytes_of, spelled}
+use Rattle.nesting.specs.declared.geometry_type.GeometryType.{GeometryType}
+use Rattle.nesting.specs.declared.geometry_type.GeometryType.TheVariants.{Point, LineString, Polygon, MultiPoint, MultiLineString, MultiPolygon, Collection}
+use Rattle.nesting.specs.Events.{Event, begin, end, pair, strange, Tells, each, group, coord_of, line_of, rings_of, simple_of, geometry_of, events_of}
+use Rattle.wkb_written.specs.declared.around.Around.{Around}
+use Rattle.wkb_written.specs.Spelling.{outermost, head_bytes, pair_of, after, begin_bytes, bytes_of, spelled}
 
 -- ---- events before others are spelled as bytes before others, in every place that fits, and what follows stands in such a place too
 record Follows (fits : Around → Type 0) (k : Around) (tells : List Event → List Event) (lays : Lays) : Type 0 where

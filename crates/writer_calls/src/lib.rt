@@ -1,10 +1,11 @@
-// The writer's calls, as the list that oracle/lists/writer.py makes lays them out: what a case gives and lends, what it calls and how
-// often, and what must come of it.
+//! The writer's calls, as the list that oracle/lists/writer.py makes lays them out: what a case gives and lends, what it calls and how
+//! often, and what must come of it.
 #![tactic(auto)]
 
-pub mod expected;
+mod call;
 mod seven;
-mod turn;
+mod sort;
 
-pub use seven::make;
-pub use turn::{Turn, next_turn, note};
+pub use call::{Answered, Call, Lent};
+pub use seven::{Store, make};
+pub use sort::Sort;

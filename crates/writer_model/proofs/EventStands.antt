@@ -1,5 +1,5 @@
 -- An accepted event takes memory that stands for a writer to memory that stands for the writer after it.
-use Rattle.std.specs.Prelude.{◌≡◌, refl, Bool, true, ℕ, ◌+◌, ◌/◌, ◌≤◌, ◌<◌, length, take}
+use Rattle.std.specs.Prelude.{Some, ◌≡◌, refl, Bool, true, ℕ, ◌+◌, ◌/◌, ◌≤◌, ◌<◌, length, take}
 use Rattle.std.proofs.Common.{sym, ◌∙◌, arith}
 use Rattle.std.proofs.Math.Path.{ap, subst}
 use Rattle.std.proofs.Math.Bool.{false, cond}
@@ -12,15 +12,12 @@ use Rattle.store.specs.Lists.{Pools}
 use Rattle.store.specs.Records.{records_lent, put_record}
 use Rattle.store.specs.RecordLaws.{put_same, put_other}
 use Rattle.asking.specs.declared.typing.Typing.{Typing}
-use Rattle.pending.specs.declared.words.Pending.{Pending}
+use Rattle.pending.specs.Words.{Pending, words_in, used}
 use Rattle.writing.specs.declared.state.State.{State}
-use Rattle.asking.specs.declared.set_type.Typed.{Typed}
-use Rattle.asking.specs.declared.set_type.Typed.TheVariants.{Set}
-use Rattle.asking.specs.declared.ask.Added.{Added}
+use Rattle.asking.specs.SetType.{Typed}
+use Rattle.asking.specs.Ask.{Added, ask, ask_of, adds_to}
 use Rattle.asking.specs.declared.ask.Ask.{Ask}
-use Rattle.pending.specs.Words.{words_in, used}
 use Rattle.writing.specs.State.{pool_in, pools_by, Mem, memory}
-use Rattle.asking.specs.Ask.{ask, ask_of, adds_to}
 use Rattle.writing.specs.Calls.{values_of, gives, records_for, state_after, table_after, pool_after, mem_after, event_with}
 use Rattle.pending.specs.Growth.{at_once, more, grown, grown_all, omitted, past, past_all, part_of as part_at}
 use Rattle.writer_model.specs.Writer.{Writer, part_of, finish_part, after}
@@ -165,6 +162,6 @@ unfolding event_with
 event_stands s k w n e h q =
     let a : Ask = ask_of s.typing e in
     let t = took-event s n a k q in
-    let b : (ask_of w.typing e).typed ≡ Set t.to = ap (λ (g : Typing). (ask_of g e).typed) (sym h.typing) ∙ t.typed in
+    let b : (ask_of w.typing e).typed ≡ Some t.to = ap (λ (g : Typing). (ask_of g e).typed) (sym h.typing) ∙ t.typed in
     let c : after w e ≡ acted w a e t.to = after_is w e t.to b ∙ ap (λ (g : Typing). acted w (ask_of g e) e t.to) (sym h.typing) in
     rw (t.is, c) (asked_stands s k w h n e a.added t.to a.typed a.part t.has t.going)

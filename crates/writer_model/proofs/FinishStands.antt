@@ -1,5 +1,5 @@
 -- Finish takes memory that stands for a writer to memory that stands for it with its tree finished.
-use Rattle.std.specs.Prelude.{◌≡◌, true, ℕ, ◌+◌, ◌≤◌, ◌<◌}
+use Rattle.std.specs.Prelude.{None, Some, ◌≡◌, true, ℕ, ◌+◌, ◌≤◌, ◌<◌}
 use Rattle.std.proofs.Math.Path.{refl, ap}
 use Rattle.std.proofs.Common.{sym, ◌∙◌, subst, eq-eqb, ne_eqb}
 use mathlib.Core.List.{List, [], ◌∷◌, ◌++◌, append-nil}
@@ -8,9 +8,7 @@ use native.Mathlib.Omega.{arith}
 use Rattle.std.proofs.Math.ListN.{length}
 use Rattle.kinds.specs.LaneLaws.{by_lane}
 use Rattle.kinds.specs.Geometry.{SpanSized, GeometrySized}
-use Rattle.kinds.specs.Lanes.{Lane, xyL, endsL, zL, mL, tL, tmL}
-use Rattle.kinds.specs.declared.geometry.Judged.TheVariants.{Good}
-use Rattle.kinds.specs.declared.geometry.Span.TheVariants.{Absent}
+use Rattle.kinds.specs.Lanes.{Lane}
 use Rattle.store.specs.Lists.{Pools, Rec}
 use Rattle.store.specs.Records.{record_in, records_lent, put_record}
 use Rattle.store.specs.RecordLaws.{put_same, put_other}
@@ -35,10 +33,10 @@ root-sized : (kind parts : ℕ) → parts ≤ 4096 → GeometrySized (root_at ki
 unfolding root_at
 root-sized kind parts most = record { xy = absent; ends = absent; z = absent; m = absent; t = absent; tm = absent; parts = record { start = omega arith; count = omega arith } }
   where
-    absent : SpanSized Absent
+    absent : SpanSized None
     absent = record { start = omega arith; count = omega arith }
 
-root-shown : (s : State) (table : List ℕ) (P : Pools) (kind kind' n : ℕ) → kind ≡ kind' → s.parts ≡ n → s.parts + 1 ≤ 4096 → record_in table 0 ≡ Good (root_at kind s.parts)
+root-shown : (s : State) (table : List ℕ) (P : Pools) (kind kind' n : ℕ) → kind ≡ kind' → s.parts ≡ n → s.parts + 1 ≤ 4096 → record_in table 0 ≡ Some (root_at kind s.parts)
     → Shows s (memory table P) 0 (record { kind = kind'; xy = none; ends = none; z = none; m = none; t = none; tm = none; parts = some (1, n) })
 unfolding root_at
 root-shown s table P kind kind' n e f most r = record {
@@ -69,7 +67,7 @@ module _ (s : State) (k : Mem) (h : Typing) (pending : Pools) (room : Room s.pen
     root = part_shown k.pools s.pending (writer h pending [] none) st.pending _ _ 0 s.typing.current refl (ap (λ (x : Typing). x.current) st.typing) written;
   }
     where
-      written : record_in (put_record k.table 0 (part_at s.typing.current s.pending)) 0 ≡ Good (part_at s.typing.current s.pending)
+      written : record_in (put_record k.table 0 (part_at s.typing.current s.pending)) 0 ≡ Some (part_at s.typing.current s.pending)
       written = put_same k.table 0 _ in_table (part_sized k.pools s.pending (writer h pending [] none) st.pending s.typing.current)
 
   -- parts: a root with type and parts alone
@@ -87,7 +85,7 @@ module _ (s : State) (k : Mem) (h : Typing) (pending : Pools) (room : Room s.pen
     root = root-shown _ _ k.pools s.typing.current h.current (length (p ∷ ps)) (ap (λ (x : Typing). x.current) st.typing) st.count st.most written;
   }
     where
-      written : record_in (put_record k.table 0 (root_at s.typing.current s.parts)) 0 ≡ Good (root_at s.typing.current s.parts)
+      written : record_in (put_record k.table 0 (root_at s.typing.current s.parts)) 0 ≡ Some (root_at s.typing.current s.parts)
       written = put_same k.table 0 _ in_table (root-sized s.typing.current s.parts (omega (arith, st.most)))
 
       bare : (n : Lane) → words_of (root_over (writer h pending (p ∷ ps) none) (p ∷ ps)) n ≡ []

@@ -1,17 +1,15 @@
 -- A finished part's record is the list-level part.
-use Rattle.std.specs.Prelude.{◌≡◌, List, ℕ, ◌+◌, length}
+use Rattle.std.specs.Prelude.{Some, ◌≡◌, List, ℕ, ◌+◌, length}
 use Rattle.std.proofs.Math.Option.{none}
 use native.Mathlib.Omega.{arith}
 use Rattle.kinds.specs.LaneLaws.{by_lane}
 use Rattle.kinds.specs.Geometry.{GeometrySized}
 use Rattle.kinds.specs.Lanes.{Lane, xyL, endsL, zL, mL, tL, tmL, usable, span_in}
-use Rattle.kinds.specs.declared.geometry.Judged.TheVariants.{Good}
 use Rattle.store.specs.Records.{record_in}
 use Rattle.store.specs.RecordLaws.{InPool, InTable}
 use Rattle.store.specs.Lists.{Pools, lists_of}
-use Rattle.pending.specs.declared.words.Pending.{Pending}
+use Rattle.pending.specs.Words.{Pending, words_in}
 use Rattle.writing.specs.declared.state.State.{State}
-use Rattle.pending.specs.Words.{words_in}
 use Rattle.writing.specs.State.{pool_in, memory}
 use Rattle.pending.specs.Growth.{omitted, past, past_all, part_of as part_at}
 use Rattle.writer_model.specs.Writer.{Writer, part_of}
@@ -59,7 +57,7 @@ module _ (P : Pools) (p : Pending) (w : Writer) (h : (n : Lane) → Lies (pool_i
   }
 
   -- read from the table at a number, by a state whose pending words begin after it
-  pub part_shown : (s : State) (table : List ℕ) (n kind : ℕ) → s.pending ≡ past_all p → kind ≡ w.typing.current → record_in table n ≡ Good (part_at kind p) → Shows s (memory table P) n (part_of w)
+  pub part_shown : (s : State) (table : List ℕ) (n kind : ℕ) → s.pending ≡ past_all p → kind ≡ w.typing.current → record_in table n ≡ Some (part_at kind p) → Shows s (memory table P) n (part_of w)
   unfolding past_all
   part_shown s table n kind past_is e r = record {
     geometry = part_at kind p;

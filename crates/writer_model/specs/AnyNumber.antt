@@ -1,37 +1,32 @@
 -- What a feature comes to does not depend on its number: the same events are accepted, the memory is left the same, and the states differ in the feature in hand alone.
-use Rattle.std.specs.Prelude.{◌≡◌, Bool, cond, ◌&&◌, ℕ, ◌+◌, eqb}
+use Rattle.std.specs.Prelude.{None, Some, ◌≡◌, Bool, cond, ◌&&◌, ℕ, ◌+◌, eqb}
 use Rattle.std.proofs.Math.Path.{refl, sym, ap, subst}
 use Rattle.std.proofs.Common.{ap₂, ◌∙◌, eq-eqb}
 use Rattle.std.proofs.Math.Bool.{true, false}
 use mathlib.Core.List.{List, [], ◌∷◌}
 use Rattle.kinds.specs.Event.{well_formed}
 use Rattle.kinds.specs.declared.event.Event.{Event}
-use Rattle.kinds.specs.declared.geometry.Lent.{Lent}
+use Rattle.kinds.specs.Lanes.{Lent}
 use Rattle.store.specs.Lists.{lent_of}
 use Rattle.store.specs.Records.{records_lent, put_record}
 use Rattle.asking.specs.declared.typing.Typing.{Typing}
-use Rattle.asking.specs.declared.set_type.Typed.{Typed}
-use Rattle.asking.specs.declared.set_type.Typed.TheVariants.{Set, Mixed}
-use Rattle.asking.specs.declared.ask.Added.{Added}
+use Rattle.asking.specs.SetType.{Typed}
+use Rattle.asking.specs.Ask.{Added, ask, no_words, ask_of}
 use Rattle.asking.specs.declared.ask.Ask.{Ask}
-use Rattle.asking.specs.Ask.{ask, no_words, ask_of}
 use Rattle.pending.specs.Room.{has_room}
-use Rattle.writing.specs.declared.feature.Feature.{Feature}
-use Rattle.writing.specs.declared.feature.Feature.TheVariants.{Open, Numbered}
+use Rattle.writing.specs.Feature.{Feature, belongs}
 use Rattle.writing.specs.declared.state.State.{State}
-use Rattle.writing.specs.declared.state.Wrote.{Wrote}
-use Rattle.writing.specs.State.{with_feature, Mem, memory, wrote}
-use Rattle.writing.specs.Feature.{belongs}
+use Rattle.writing.specs.State.{Wrote, with_feature, Mem, memory, wrote}
 use Rattle.writing.specs.Calls.{records_for, state_after, room_or, decide_typed, if_due, decide_event, table_after, mem_after, event_with, finished, root_of, decide_finish, finish_call, renewed, decide_next}
 use Rattle.writer_model.specs.Fed.{sized, takes, fed_state, fed_to, fed_mem}
 use Rattle.writer_model.specs.Feature.{finishes_in, finished_mem}
 
-asked_after : (s : State) (f : Feature) (n : ℕ) (typed : Typed) (added : Added) (part : Bool) (h : Typing) → state_after (with_feature s f) n (ask typed added part) h ≡ with_feature (state_after s 0 (ask typed added part) h) (Numbered n)
+asked_after : (s : State) (f : Feature) (n : ℕ) (typed : Typed) (added : Added) (part : Bool) (h : Typing) → state_after (with_feature s f) n (ask typed added part) h ≡ with_feature (state_after s 0 (ask typed added part) h) (Some n)
 unfolding state_after
 asked_after s f n typed added true h = refl
 asked_after s f n typed added false h = refl
 
-after_is : (s : State) (f : Feature) (n : ℕ) (a : Ask) (h : Typing) → state_after (with_feature s f) n a h ≡ with_feature (state_after s 0 a h) (Numbered n)
+after_is : (s : State) (f : Feature) (n : ℕ) (a : Ask) (h : Typing) → state_after (with_feature s f) n a h ≡ with_feature (state_after s 0 a h) (Some n)
 after_is s f n a h = asked_after s f n a.typed a.added a.part h
 
 -- ---- an event, given under n to a state that has f in hand, and under m to the same state with g in hand
@@ -49,9 +44,9 @@ module _ (n m : ℕ) where
             → P (cond waiting (wrote 15 (with_feature s f)) (cond b (decide_typed (with_feature s f) n a room t) (wrote 17 (with_feature s f)))) (cond waiting (wrote 15 (with_feature s g)) (cond b (decide_typed (with_feature s g) m a room t) (wrote 17 (with_feature s g))))
         by_tests true b room t = alike 15 s f g own
         by_tests false false room t = alike 17 s f g own
-        by_tests false true room Mixed = alike 5 s f g own
-        by_tests false true false (Set h) = alike 12 s f g own
-        by_tests false true true (Set h) = rw (after_is s f n a h, after_is s g m a h) (alike 0 (state_after s 0 a h) (Numbered n) (Numbered m) (eq-eqb n n refl ∙ sym (eq-eqb m m refl)))
+        by_tests false true room None = alike 5 s f g own
+        by_tests false true false (Some h) = alike 12 s f g own
+        by_tests false true true (Some h) = rw (after_is s f n a h, after_is s g m a h) (alike 0 (state_after s 0 a h) (Some n) (Some m) (eq-eqb n n refl ∙ sym (eq-eqb m m refl)))
 
   -- ---- a row of events
   module _ (records : ℕ) (pools : Lent) where
@@ -62,10 +57,10 @@ module _ (n m : ℕ) where
         (λ number t f g own. ap (λ (rest : Bool). well_formed e && sized e && eqb number 0 && rest) (takes-alike es t f g own))
         s f g own (ask_of s.typing e) records pools
 
-    fed_alike : (es : List Event) (s : State) (f g : Feature) → belongs f n ≡ belongs g m → with_feature (fed_state (with_feature s f) n records pools es) Open ≡ with_feature (fed_state (with_feature s g) m records pools es) Open
+    fed_alike : (es : List Event) (s : State) (f g : Feature) → belongs f n ≡ belongs g m → with_feature (fed_state (with_feature s f) n records pools es) None ≡ with_feature (fed_state (with_feature s g) m records pools es) None
     fed_alike [] s f g own = refl
     fed_alike (e ∷ es) s f g own =
-        decided-alike (λ (a b : Wrote). with_feature (fed_state a.state n records pools es) Open ≡ with_feature (fed_state b.state m records pools es) Open)
+        decided-alike (λ (a b : Wrote). with_feature (fed_state a.state n records pools es) None ≡ with_feature (fed_state b.state m records pools es) None)
         (λ number t f g own. fed_alike es t f g own)
         s f g own (ask_of s.typing e) records pools
 
@@ -103,7 +98,7 @@ finish_mem s f k = ap (λ (number : ℕ). cond (eqb number 0) (memory (put_recor
 
 -- ---- a feature under n, and under m: where none is in hand, these are any two numbers
 module _ (s : State) (n m : ℕ) (own : belongs s.feature n ≡ belongs s.feature m) (k : Mem) (es : List Event) where
-  fed_any : with_feature (fed_to s n k es) Open ≡ with_feature (fed_to s m k es) Open
+  fed_any : with_feature (fed_to s n k es) None ≡ with_feature (fed_to s m k es) None
   fed_any = fed_alike n m (records_lent k.table) (lent_of k.pools) es s s.feature s.feature own
 
   pub finishes-any : finishes_in s n k es ≡ finishes_in s m k es
@@ -111,24 +106,24 @@ module _ (s : State) (n m : ℕ) (own : belongs s.feature n ≡ belongs s.featur
       let records : ℕ = records_lent k.table in
       let pools : Lent = lent_of k.pools in
       let ends : (decide_finish (fed_to s n k es) records pools).number ≡ (decide_finish (fed_to s m k es) records pools).number =
-      sym (finish-number (fed_to s n k es) Open records pools) ∙ ap (λ (t : State). (decide_finish t records pools).number) fed_any ∙ finish-number (fed_to s m k es) Open records pools in
+      sym (finish-number (fed_to s n k es) None records pools) ∙ ap (λ (t : State). (decide_finish t records pools).number) fed_any ∙ finish-number (fed_to s m k es) None records pools in
       ap₂ (λ (all : Bool) (number : ℕ). all && eqb number 0) (takes-alike n m records pools es s s.feature s.feature own) ends
 
   pub finished-any : finished_mem s n k es ≡ finished_mem s m k es
   finished-any =
-      sym (finish_mem (fed_to s n k es) Open (fed_mem s n k es))
+      sym (finish_mem (fed_to s n k es) None (fed_mem s n k es))
       ∙ ap₂ (λ (t : State) (left : Mem). (finish_call t left).mem) fed_any (mem_alike n m es k s s.feature s.feature own)
-      ∙ finish_mem (fed_to s m k es) Open (fed_mem s m k es)
+      ∙ finish_mem (fed_to s m k es) None (fed_mem s m k es)
 
-  ends-any : with_feature (finished (fed_to s n k es)) Open ≡ with_feature (finished (fed_to s m k es)) Open
+  ends-any : with_feature (finished (fed_to s n k es)) None ≡ with_feature (finished (fed_to s m k es)) None
   unfolding finished
   ends-any = ap finished fed_any
 
   pub goes_any : (decide_next (finished (fed_to s n k es)) (records_lent k.table) (lent_of k.pools)).number ≡ (decide_next (finished (fed_to s m k es)) (records_lent k.table) (lent_of k.pools)).number
   goes_any =
-      sym (next-number (finished (fed_to s n k es)) Open _ _)
+      sym (next-number (finished (fed_to s n k es)) None _ _)
       ∙ ap (λ (t : State). (decide_next t (records_lent k.table) (lent_of k.pools)).number) ends-any
-      ∙ next-number (finished (fed_to s m k es)) Open _ _
+      ∙ next-number (finished (fed_to s m k es)) None _ _
 
   -- next leaves the very same state
   pub renewed-any : renewed (finished (fed_to s n k es)) ≡ renewed (finished (fed_to s m k es))

@@ -1,5 +1,5 @@
 -- An accepted event does to the lists what it asks for: words pushed, perhaps a part finished, a typing.
-use Rattle.std.specs.Prelude.{◌≡◌, Bool, cond, ◌||◌, ℕ, length, leb, ltb, eqb}
+use Rattle.std.specs.Prelude.{None, Some, ◌≡◌, Bool, cond, ◌||◌, ℕ, length, leb, ltb, eqb}
 use Rattle.std.proofs.Math.Path.{refl, ap}
 use Rattle.std.proofs.Common.{sym, ◌∙◌}
 use Rattle.std.proofs.Math.Bool.{true, false}
@@ -8,14 +8,11 @@ use Rattle.laws.specs.Every.{never}
 use Rattle.kinds.specs.declared.event.Event.{Event}
 use Rattle.asking.specs.declared.typing.Typing.{Typing}
 use Rattle.writing.specs.declared.state.State.{State}
-use Rattle.asking.specs.declared.set_type.Typed.{Typed}
-use Rattle.asking.specs.declared.set_type.Typed.TheVariants.{Set, Mixed}
-use Rattle.asking.specs.declared.ask.Added.{Added}
+use Rattle.asking.specs.SetType.{Typed, with_mode}
+use Rattle.asking.specs.Ask.{Added, no_words, pair_with, ask, ask_of, begun, calmed, pushes_end, collects, end_if as added_end}
 use Rattle.asking.specs.declared.ask.Ask.{Ask}
 use Rattle.pending.specs.Words.{words, pending_of}
 use Rattle.writing.specs.State.{fresh, with_typing, with_pending, pool_in, pools_by}
-use Rattle.asking.specs.SetType.{with_mode}
-use Rattle.asking.specs.Ask.{no_words, pair_with, ask, ask_of, begun, calmed, pushes_end, collects, end_if as added_end}
 use Rattle.writing.specs.Calls.{gives}
 use Rattle.writer_model.specs.Writer.{Writer, retyped, holding, finish_part, part_if, typed_to, pushed, coordinate, end_pushed, end_if, calm, line_end, polygon_end, after}
 
@@ -23,12 +20,12 @@ use Rattle.writer_model.specs.Writer.{Writer, retyped, holding, finish_part, par
 abbrev pub ask_by : Typing → Event → Bool → Bool → Bool → Bool → Bool → Bool → Ask
 ask_by h e b x i j k l =
     cond b (ask (begun h e) no_words false)
-    (cond x (ask (Set h) (pair_with e.present) false)
-    (cond i (ask (Set h) no_words (collects h))
-    (cond j (ask (Set (calmed h e.tagged)) (added_end (pushes_end h e.tagged)) (collects h))
-    (cond k (ask (Set (calmed h e.tagged)) no_words (pushes_end h e.tagged || collects h))
-    (cond l (ask (Set (with_mode h 0)) no_words false)
-    (ask (Set h) no_words false))))))
+    (cond x (ask (Some h) (pair_with e.present) false)
+    (cond i (ask (Some h) no_words (collects h))
+    (cond j (ask (Some (calmed h e.tagged)) (added_end (pushes_end h e.tagged)) (collects h))
+    (cond k (ask (Some (calmed h e.tagged)) no_words (pushes_end h e.tagged || collects h))
+    (cond l (ask (Some (with_mode h 0)) no_words false)
+    (ask (Some h) no_words false))))))
 
 -- a state that counts the writer's pending words: an end counts its pairs
 abbrev pub counted : Writer → State
@@ -61,9 +58,9 @@ module _ (w : Writer) (e : Event) where
   unfolding acted
   acts typed a part h v q = ap (λ (u : Writer). retyped (part_if part u) h) (sym q)
 
-  typed-is : (o : Typed) (h : Typing) → o ≡ Set h → typed_to w o ≡ retyped w h
-  typed-is Mixed h q = absurd (never (cc))
-  typed-is (Set g) h q = let z : g ≡ h = cc in rw z
+  typed-is : (o : Typed) (h : Typing) → o ≡ Some h → typed_to w o ≡ retyped w h
+  typed-is None h q = absurd (never (cc))
+  typed-is (Some g) h q = let z : g ≡ h = cc in rw z
 
   -- an end is followed by calm, whatever it did
   ended : (on part : Bool) (tagged : Bool) → calm (part_if part (end_if on w)) tagged ≡ retyped (part_if part (end_if on w)) (calmed w.typing tagged)
@@ -82,7 +79,7 @@ module _ (w : Writer) (e : Event) where
   unfolding coordinate
   paired = refl
 
-  pub after_is : (h : Typing) → (ask_of w.typing e).typed ≡ Set h → after w e ≡ acted w (ask_of w.typing e) e h
+  pub after_is : (h : Typing) → (ask_of w.typing e).typed ≡ Some h → after w e ≡ acted w (ask_of w.typing e) e h
   unfolding after ask_of line_end polygon_end
   after_is h q = go (ltb e.kind 32) (leb 64 e.kind) (eqb e.kind 33) (eqb e.kind 34) (eqb e.kind 35) (eqb e.kind 39) q
     where
@@ -104,7 +101,7 @@ module _ (w : Writer) (e : Event) where
           (cond k (calm (part_if (p || m) w) e.tagged)
           (cond l (retyped w (with_mode w.typing 0)) w)))))
 
-      go : (b x i j k l : Bool) → (ask_by w.typing e b x i j k l).typed ≡ Set h → after_by b x i j k l ≡ acted w (ask_by w.typing e b x i j k l) e h
+      go : (b x i j k l : Bool) → (ask_by w.typing e b x i j k l).typed ≡ Some h → after_by b x i j k l ≡ acted w (ask_by w.typing e b x i j k l) e h
       go true x i j k l q = typed-is (begun w.typing e) h q ∙ acts (begun w.typing e) no_words false h w none_added
       go false true i j k l q = let z : w.typing ≡ h = cc in paired ∙ ap (retyped (coordinate w e)) z ∙ acts _ (pair_with e.present) false h _ pair_added
       go false false true j k l q = let z : w.typing ≡ h = cc in parted m ∙ ap (retyped (part_if m w)) z ∙ acts _ no_words m h w none_added

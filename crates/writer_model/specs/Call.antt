@@ -1,12 +1,10 @@
 -- A call: an event's bytes, finish or next. On lent memory, and on lists.
 use Rattle.std.specs.Prelude.{Bool, cond, List, ℕ, eqb}
-use Rattle.kinds.specs.Event.{Parsed}
-use Rattle.kinds.specs.Event.{WellFormed, Malformed}
+use Rattle.kinds.specs.Event.{Parsed, WellFormed, Malformed}
 use Rattle.event_log.specs.Log.{heard, feature_in}
-use Rattle.writing.specs.declared.feature.Feature.{Feature}
+use Rattle.writing.specs.Feature.{Feature, belongs}
 use Rattle.writing.specs.declared.state.State.{State}
 use Rattle.writing.specs.State.{Mem, Outcome}
-use Rattle.writing.specs.Feature.{belongs}
 use Rattle.writing.specs.Calls.{event_call, finish_call, next_call}
 use Rattle.writer_model.specs.Writer.{Writer, waits, after, nay, finish, next}
 

@@ -6,13 +6,12 @@ use borrow.Author.Tests.{ltb-true, eqb-true}
 use Rattle.laws.specs.Every.{both}
 use Rattle.kinds.specs.Event.{well_formed, EventSized, WellFormed}
 use Rattle.kinds.specs.declared.event.Event.{Event}
-use Rattle.kinds.specs.declared.geometry.Lent.{Lent}
+use Rattle.kinds.specs.Lanes.{Lent}
 use Rattle.store.specs.Lists.{lent_of}
 use Rattle.event_log.specs.Log.{events, heard, feature_in, hear_said, feature-said}
 use Rattle.store.specs.Records.{records_lent}
 use Rattle.writing.specs.declared.state.State.{State}
-use Rattle.writing.specs.declared.state.Wrote.{Wrote}
-use Rattle.writing.specs.State.{Mem, Outcome}
+use Rattle.writing.specs.State.{Wrote, Mem, Outcome}
 use Rattle.asking.specs.Ask.{ask_of}
 use Rattle.writing.specs.Calls.{decide_event, event_with, event_call}
 use Rattle.writer_model.specs.Writer.{Writer, after, after_all}

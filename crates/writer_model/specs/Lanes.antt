@@ -1,7 +1,7 @@
 -- What is made lane by lane, seen by lane.
 use Rattle.std.specs.Prelude.{◌≡◌, refl, List, [], ℕ, length}
 use Rattle.kinds.specs.LaneLaws.{by_lane}
-use Rattle.kinds.specs.Lanes.{Lane, xyL, endsL, zL, mL, tL, tmL, lent_in}
+use Rattle.kinds.specs.Lanes.{Lane, lent_in}
 use Rattle.store.specs.Lists.{Pools, lent_of}
 use Rattle.pending.specs.declared.words.Words.{Words}
 use Rattle.pending.specs.Words.{words_in, pending_of}

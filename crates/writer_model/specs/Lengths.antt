@@ -6,18 +6,16 @@ use Rattle.std.proofs.Math.ListN.{length}
 use Rattle.std.proofs.Math.Seq.{length-sets}
 use Rattle.kinds.specs.Lanes.{Lane, xyL, endsL, zL, mL, tL, tmL}
 use Rattle.kinds.specs.declared.event.Event.{Event}
-use Rattle.kinds.specs.Event.{Parsed}
-use Rattle.kinds.specs.Event.{WellFormed, Malformed}
+use Rattle.kinds.specs.Event.{Parsed, WellFormed, Malformed}
 use Rattle.store.specs.Lists.{lent_of, stretch_length}
 use Rattle.event_log.specs.Log.{heard, feature_in}
 use Rattle.store.specs.RecordLaws.{put-length}
 use Rattle.writing.specs.declared.state.State.{State}
-use Rattle.asking.specs.declared.set_type.Typed.{Typed}
-use Rattle.asking.specs.declared.ask.Added.{Added}
+use Rattle.asking.specs.SetType.{Typed}
+use Rattle.asking.specs.Ask.{Added, ask, ask_of}
 use Rattle.asking.specs.declared.ask.Ask.{Ask}
 use Rattle.pending.specs.Words.{words_in, used}
 use Rattle.writing.specs.State.{pool_in, Mem}
-use Rattle.asking.specs.Ask.{ask, ask_of}
 use Rattle.writing.specs.Calls.{gives, table_after, pool_after, mem_after, event_with, event_of, event_call, root_of, finish_call, moved, pool_moved, next_call}
 use Rattle.pending.specs.Growth.{grown_all, part_of}
 use Rattle.writer_model.specs.Lanes.{pool_by}

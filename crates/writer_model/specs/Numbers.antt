@@ -1,16 +1,13 @@
 -- The feature in hand: an accepted event is of it, and leaves its own number in hand; finish keeps it, and next lets it go. An event of another feature is refused with 17.
-use Rattle.std.specs.Prelude.{◌≡◌, Bool, true, false, cond, List, ℕ}
+use Rattle.std.specs.Prelude.{None, Some, ◌≡◌, Bool, true, false, cond, List, ℕ}
 use Rattle.std.proofs.Common.{sym, ap, ◌∙◌, arith}
-use Rattle.kinds.specs.Event.{Parsed}
-use Rattle.kinds.specs.Event.{WellFormed, Malformed}
+use Rattle.kinds.specs.Event.{Parsed, WellFormed, Malformed}
 use Rattle.kinds.specs.declared.event.Event.{Event}
 use Rattle.event_log.specs.Log.{heard, feature_in}
-use Rattle.writing.specs.declared.feature.Feature.{Feature}
-use Rattle.writing.specs.declared.feature.Feature.TheVariants.{Open, Numbered}
+use Rattle.writing.specs.Feature.{Feature, belongs}
 use Rattle.writing.specs.declared.state.State.{State}
 use Rattle.asking.specs.declared.ask.Ask.{Ask}
 use Rattle.writing.specs.State.{Mem, Outcome}
-use Rattle.writing.specs.Feature.{belongs}
 use Rattle.asking.specs.Ask.{ask_of}
 use Rattle.writing.specs.Ends.{another_feature}
 use Rattle.writing.specs.Other.{after-held}
@@ -19,12 +16,12 @@ use Rattle.writer_model.specs.Took.{took-event, took-finish, took-next}
 use Rattle.writer_model.specs.Call.{Call, event_c, finish_c, next_c, called}
 
 abbrev pub feature_after : Call → Feature → Feature
-feature_after (event_c bytes) f = Numbered (feature_in bytes)
+feature_after (event_c bytes) f = Some (feature_in bytes)
 feature_after finish_c f = f
-feature_after next_c f = Open
+feature_after next_c f = None
 
 module _ (s : State) (k : Mem) where
-  heard-feature : (n : ℕ) (p : Parsed) → (event_of s k n p).wrote.number ≡ 0 → (event_of s k n p).wrote.state.feature ≡ Numbered n
+  heard-feature : (n : ℕ) (p : Parsed) → (event_of s k n p).wrote.number ≡ 0 → (event_of s k n p).wrote.state.feature ≡ Some n
   unfolding event_with
   heard-feature n Malformed q = absurd (omega arith)
   heard-feature n (WellFormed e) q =

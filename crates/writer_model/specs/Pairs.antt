@@ -1,5 +1,5 @@
 -- The parts' xy lists joined in order, then the pending list: what an event adds, and that it is read off the memory.
-use Rattle.std.specs.Prelude.{◌≡◌, Bool, ℕ, zero, suc, ◌+◌, length, take, drop, leb, ltb, eqb}
+use Rattle.std.specs.Prelude.{Some, ◌≡◌, Bool, ℕ, zero, suc, ◌+◌, length, take, drop, leb, ltb, eqb}
 use Rattle.std.proofs.Math.Path.{refl}
 use Rattle.std.proofs.Common.{sym, ap, ◌∙◌, arith, ltb-true}
 use Rattle.std.proofs.Math.Bool.{true, false, cond}
@@ -13,12 +13,10 @@ use Rattle.store.specs.Records.{record_in}
 use Rattle.asking.specs.declared.typing.Typing.{Typing}
 use Rattle.pending.specs.declared.words.Words.{Words}
 use Rattle.writing.specs.declared.state.State.{State}
-use Rattle.asking.specs.declared.set_type.Typed.{Typed}
-use Rattle.asking.specs.declared.set_type.Typed.TheVariants.{Set}
-use Rattle.asking.specs.declared.ask.Added.{Added}
+use Rattle.asking.specs.SetType.{Typed}
+use Rattle.asking.specs.Ask.{Added, ask, ask_of}
 use Rattle.asking.specs.declared.ask.Ask.{Ask}
 use Rattle.writing.specs.State.{Mem}
-use Rattle.asking.specs.Ask.{ask, ask_of}
 use Rattle.writing.specs.Calls.{gives}
 use Rattle.writer_model.specs.Writer.{Writer, part_of, finish_part, after, finish, next, root_over, left_by, is_there}
 use Rattle.writer_model.specs.Laid.{words_of, joined, rooted, laid, laid_snoc}
@@ -57,7 +55,7 @@ module _ (w : Writer) (e : Event) where
       go false false false false false true f = refl
       go false false false false false false f = refl
 
-  pub event_xy : (h : Typing) → (ask_of w.typing e).typed ≡ Set h → all_xy (after w e) ≡ all_xy w ++ pair_of e
+  pub event_xy : (h : Typing) → (ask_of w.typing e).typed ≡ Some h → all_xy (after w e) ≡ all_xy w ++ pair_of e
   event_xy h q =
       let a : Ask = ask_of w.typing e in
       ap all_xy (after_is w e h q) ∙ acted_xy h a.typed a.added a.part ∙ ap (λ (l : List ℕ). all_xy w ++ l) (asked_xy (counted w) w.typing)

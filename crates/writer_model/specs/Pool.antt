@@ -1,14 +1,12 @@
 -- One pool through the calls: words are pushed, given to a part, moved to the front.
-use Rattle.std.specs.Prelude.{◌≡◌, Bool, List, [], ◌++◌, ℕ, ◌+◌, ◌≤◌, length, take, drop, leb}
+use Rattle.std.specs.Prelude.{None, ◌≡◌, Bool, List, [], ◌++◌, ℕ, ◌+◌, ◌≤◌, length, take, drop, leb}
 use Rattle.std.proofs.Math.Path.{refl, ap}
 use Rattle.std.proofs.Common.{sym, ◌∙◌, arith, length-append, take_at, leb-true}
 use Rattle.std.proofs.Math.Bool.{true, false, cond}
 use Rattle.std.proofs.Math.Option.{Option, none, some, get_or}
 use Rattle.std.proofs.lemmas.List.Edits.{sets}
 use Rattle.std.proofs.Math.Seq.{length-sets}
-use Rattle.kinds.specs.Geometry.{SpanSized}
-use Rattle.kinds.specs.declared.geometry.Span.{Span}
-use Rattle.kinds.specs.declared.geometry.Span.TheVariants.{Absent}
+use Rattle.kinds.specs.Geometry.{SpanSized, Span}
 use Rattle.store.specs.RecordLaws.{InPool}
 use Rattle.store.specs.Lists.{list_of, stretch_length}
 use Rattle.pending.specs.declared.words.Words.{Words}
@@ -65,11 +63,11 @@ module _ {pool : List ℕ} {p : Words} {most : ℕ} {pending : List ℕ} (h : Li
   unfolding longer
   shown-has k = record { list = rw (← lies_count) (list (leb p.count k)); below = below (leb p.count k); ends = rw (← lies_count) (ends (leb p.count k)) }
     where
-      list : (b : Bool) → list_of pool (cond b Absent (listed p)) ≡ cond b none (some pending)
+      list : (b : Bool) → list_of pool (cond b None (listed p)) ≡ cond b none (some pending)
       list true = refl
       list false = ap some h.there
 
-      below : (b : Bool) → InPool (cond b Absent (listed p)) (p.start + cond b 0 p.count) most
+      below : (b : Bool) → InPool (cond b None (listed p)) (p.start + cond b 0 p.count) most
       below true = tt
       below false = (omega arith, h.fits)
 
@@ -84,6 +82,6 @@ module _ {pool : List ℕ} {p : Words} {most : ℕ} {pending : List ℕ} (h : Li
   pub shown-sized : (k : ℕ) → most ≤ 131072 → SpanSized (shown p k)
   shown-sized k m = go (leb p.count k)
     where
-      go : (b : Bool) → SpanSized (cond b Absent (listed p))
+      go : (b : Bool) → SpanSized (cond b None (listed p))
       go true = record { start = omega arith; count = omega arith }
       go false = listed-sized m

@@ -1,16 +1,14 @@
 -- The properties' length is kept through events and finish, and emptied by next.
 use Rattle.std.specs.Prelude.{◌≡◌, refl, Bool, true, false, ℕ}
 use Rattle.std.proofs.Common.{arith}
-use Rattle.kinds.specs.Event.{Parsed}
-use Rattle.kinds.specs.Event.{WellFormed, Malformed}
+use Rattle.kinds.specs.Event.{Parsed, WellFormed, Malformed}
 use Rattle.event_log.specs.Log.{heard, feature_in}
 use Rattle.asking.specs.declared.typing.Typing.{Typing}
 use Rattle.writing.specs.declared.state.State.{State}
-use Rattle.asking.specs.declared.set_type.Typed.{Typed}
-use Rattle.asking.specs.declared.ask.Added.{Added}
+use Rattle.asking.specs.SetType.{Typed}
+use Rattle.asking.specs.Ask.{Added, ask, ask_of}
 use Rattle.asking.specs.declared.ask.Ask.{Ask}
 use Rattle.writing.specs.State.{Mem}
-use Rattle.asking.specs.Ask.{ask, ask_of}
 use Rattle.writing.specs.Calls.{state_after, event_with, event_of, event_call, finished, finish_call, renewed, next_call}
 use Rattle.writer_model.specs.Took.{took-event, took-finish, took-next}
 use Rattle.writer_model.specs.Call.{Call, event_c, finish_c, next_c, called}

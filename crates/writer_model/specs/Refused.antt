@@ -1,20 +1,17 @@
 -- A refused call changes nothing, and is refused with the number of the lists' writer, for the feature in hand, or for want of room.
-use Rattle.std.specs.Prelude.{◌≡◌, refl, true, false, ℕ, ◌+◌, leb, ltb, eqb}
+use Rattle.std.specs.Prelude.{None, Some, ◌≡◌, refl, true, false, ℕ, ◌+◌, leb, ltb, eqb}
 use Rattle.std.proofs.Math.Path.{sym, ap}
 use Rattle.std.proofs.Common.{◌∙◌}
 use Rattle.std.proofs.Math.Bool.{Bool, cond}
 use Rattle.kinds.specs.declared.event.Event.{Event}
-use Rattle.kinds.specs.Event.{Parsed}
-use Rattle.kinds.specs.Event.{WellFormed, Malformed}
+use Rattle.kinds.specs.Event.{Parsed, WellFormed, Malformed}
 use Rattle.event_log.specs.Log.{heard, feature_in}
 use Rattle.writing.specs.declared.state.State.{State}
-use Rattle.asking.specs.declared.set_type.Typed.{Typed}
-use Rattle.asking.specs.declared.set_type.Typed.TheVariants.{Set, Mixed}
+use Rattle.asking.specs.SetType.{Typed, typed_number}
 use Rattle.asking.specs.declared.ask.Ask.{Ask}
 use Rattle.writing.specs.State.{Mem, Outcome, outcome, wrote}
 use Rattle.writing.specs.Feature.{belongs}
 use Rattle.writing.specs.Refused.{event_unchanged, finish_unchanged, next_unchanged}
-use Rattle.asking.specs.SetType.{typed_number}
 use Rattle.asking.specs.Ask.{no_words, ask_of, begun}
 use Rattle.writing.specs.Calls.{records_for, state_after, room_or, decide_typed, if_due, decide_event, event_with, event_of, event_call, finished, decide_finish, finish_call, renewed, decide_next, next_call}
 use Rattle.writer_model.specs.Writer.{Writer, waits, nay}
@@ -58,8 +55,8 @@ room-number s t false = refl
 typed-number : (s : State) (n : ℕ) (a : Ask) (b own r : Bool) (o : Typed) → (cond b (wrote 15 s) (cond own (decide_typed s n a r o) (wrote 17 s))).number ≡ answer (cond b 15 (cond own (cond b 15 (typed_number o)) 17)) r
 typed-number s n a true own r o = refl
 typed-number s n a false false r o = refl
-typed-number s n a false true r Mixed = refl
-typed-number s n a false true r (Set h) = room-number s (state_after s n a h) r
+typed-number s n a false true r None = refl
+typed-number s n a false true r (Some h) = room-number s (state_after s n a h) r
 
 module _ (s : State) (k : Mem) (w : Writer) (h : Stands s k w) where
   heard-number : (n : ℕ) (p : Parsed) → (r : Bool) × ((event_of s k n p).wrote.number ≡ answer (nay_heard s.feature n w p) r)

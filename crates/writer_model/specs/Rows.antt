@@ -1,8 +1,7 @@
 -- Any row of calls from start, accepted and refused, over any number of features: the memory stands for the writer on lists, and the accepted pairs are in it.
 use Rattle.std.specs.Prelude.{◌≡◌, Bool, ℕ}
 use mathlib.Core.List.{List, [], ◌++◌}
-use Rattle.kinds.specs.Event.{Parsed}
-use Rattle.kinds.specs.Event.{WellFormed, Malformed}
+use Rattle.kinds.specs.Event.{Parsed, WellFormed, Malformed}
 use Rattle.event_log.specs.Log.{heard}
 use Rattle.writing.specs.declared.state.State.{State}
 use Rattle.writing.specs.State.{Mem, with_properties}

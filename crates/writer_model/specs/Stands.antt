@@ -1,9 +1,8 @@
 -- Lent memory that stands for a writer on lists, and what of it a state uses: all else is free.
-use Rattle.std.specs.Prelude.{◌≡◌, true, List, ℕ, ◌+◌, ◌≤◌, length, take, drop}
+use Rattle.std.specs.Prelude.{Some, ◌≡◌, true, List, ℕ, ◌+◌, ◌≤◌, length, take, drop}
 use Rattle.std.proofs.Math.Option.{Option, none, some}
 use Rattle.kinds.specs.Lanes.{Lane, usable, span_in}
 use Rattle.kinds.specs.declared.geometry.Geometry.{Geometry}
-use Rattle.kinds.specs.declared.geometry.Judged.TheVariants.{Good}
 use Rattle.store.specs.Records.{record_in}
 use Rattle.store.specs.RecordLaws.{InPool, InTable}
 use Rattle.store.specs.Lists.{Rec, lists_of}
@@ -24,7 +23,7 @@ pub record Lies (pool : List ℕ) (p : Words) (most : ℕ) (pending : List ℕ) 
 -- record n, with its lists, is r; the lists end before the pending words, and parts are above it, among the state's records
 pub record Shows (s : State) (k : Mem) (n : ℕ) (r : Rec) : Type 0 where
   pub geometry : Geometry
-  pub read : record_in k.table n ≡ Good geometry
+  pub read : record_in k.table n ≡ Some geometry
   pub lists : lists_of k.pools geometry ≡ r
   pub below : (m : Lane) → InPool (span_in geometry m) (words_in s.pending m).start (usable m)
   pub above : InTable geometry.parts n (s.parts + 1)

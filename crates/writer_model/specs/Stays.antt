@@ -1,12 +1,11 @@
 -- What stands at the start, and goes on to while the words and records in use are left alone.
-use Rattle.std.specs.Prelude.{◌≡◌, refl, Bool, false, List, ℕ, ◌+◌, ◌≤◌, ◌<◌, length, take}
+use Rattle.std.specs.Prelude.{None, Some, ◌≡◌, refl, Bool, false, List, ℕ, ◌+◌, ◌≤◌, ◌<◌, length, take}
 use Rattle.std.proofs.Common.{sym, ap, ◌∙◌, arith}
 use Rattle.std.proofs.Math.Option.{Option, none, some}
 use Rattle.laws.specs.Every.{never}
 use Rattle.kinds.specs.Lanes.{Lane, xyL, endsL, zL, mL, tL, tmL, usable, span_in}
 use Rattle.kinds.specs.declared.geometry.Geometry.{Geometry}
-use Rattle.kinds.specs.declared.geometry.Span.{Span}
-use Rattle.kinds.specs.declared.geometry.Span.TheVariants.{Absent, Stretch}
+use Rattle.kinds.specs.Geometry.{Span}
 use Rattle.store.specs.Records.{record_in}
 use Rattle.store.specs.RecordLaws.{InPool, InTable}
 use Rattle.store.specs.Lists.{Pools, Rec, list_of, lists_of}
@@ -23,19 +22,19 @@ use Rattle.writer_model.specs.Stands.{Lies, Shows, IfThere, Stands, Agrees}
 
 -- ---- a record whose lists are left alone is as it was
 list_same : (span : Span) (n most : ℕ) (l l' : List ℕ) → InPool span n most → take n l' ≡ take n l → list_of l' span ≡ list_of l span
-list_same Absent n most l l' h e = refl
-list_same (Stretch start count) n most l l' h e = ap some (stretch_same n l l' e start count h.0)
+list_same None n most l l' h e = refl
+list_same (Some span) n most l l' h e = ap some (stretch_same n l l' e span.start span.count h.0)
 
 lists_same : (g : Geometry) (P P' : Pools) → ((m : Lane) → list_of (pool_in P' m) (span_in g m) ≡ list_of (pool_in P m) (span_in g m)) → lists_of P' g ≡ lists_of P g
 lists_same g P P' e = λ i. record { kind = g.kind; xy = e xyL i; ends = e endsL i; z = e zL i; m = e mL i; t = e tL i; tm = e tmL i; parts = (lists_of P g).parts }
 
 pool_wider : (span : Span) (n n' most : ℕ) → n ≤ n' → InPool span n most → InPool span n' most
-pool_wider Absent n n' most h i = tt
-pool_wider (Stretch start count) n n' most h i = (omega (arith, i.0), i.1)
+pool_wider None n n' most h i = tt
+pool_wider (Some span) n n' most h i = (omega (arith, i.0), i.1)
 
 table_wider : (span : Span) (i n n' : ℕ) → n ≤ n' → InTable span i n → InTable span i n'
-table_wider Absent i n n' h t = tt
-table_wider (Stretch start count) i n n' h t = (t.0, omega (arith, t.1), t.2)
+table_wider None i n n' h t = tt
+table_wider (Some span) i n n' h t = (t.0, omega (arith, t.1), t.2)
 
 -- a later state and memory: what stands before the pending words is the same, and no less
 pub record Later (s : State) (k : Mem) (s' : State) (k' : Mem) : Type 0 where

@@ -1,22 +1,19 @@
 -- What an accepted call says of the state and of what is lent.
-use Rattle.std.specs.Prelude.{◌≡◌, refl, Bool, true, false, cond, ℕ, ◌+◌, ◌≤◌, length, leb}
+use Rattle.std.specs.Prelude.{None, Some, ◌≡◌, refl, Bool, true, false, cond, ℕ, ◌+◌, ◌≤◌, length, leb}
 use Rattle.std.proofs.Common.{arith, leb-true}
 use Rattle.laws.specs.Every.{both}
 use Rattle.kinds.specs.Lanes.{Lane, usable, every_lane, lent_in}
 use Rattle.store.specs.Lists.{lent_of}
 use Rattle.store.specs.Records.{records_lent}
 use Rattle.asking.specs.declared.typing.Typing.{Typing}
-use Rattle.pending.specs.declared.words.Pending.{Pending}
+use Rattle.pending.specs.Words.{Pending, words_in, used}
 use Rattle.writing.specs.declared.state.State.{State}
-use Rattle.asking.specs.declared.set_type.Typed.{Typed}
-use Rattle.asking.specs.declared.set_type.Typed.TheVariants.{Set, Mixed}
-use Rattle.asking.specs.declared.ask.Added.{Added}
+use Rattle.asking.specs.SetType.{Typed}
+use Rattle.asking.specs.Ask.{Added, no_words}
 use Rattle.asking.specs.declared.ask.Ask.{Ask}
-use Rattle.pending.specs.Words.{words_in, used}
 use Rattle.writing.specs.State.{pool_in, Mem, wrote}
 use Rattle.writing.specs.Feature.{belongs}
 use Rattle.pending.specs.Growth.{more}
-use Rattle.asking.specs.Ask.{no_words}
 use Rattle.pending.specs.Room.{room_in, lane_room, has_room}
 use Rattle.writing.specs.Calls.{records_for, state_after, room_or, decide_typed, decide_event, finished, decide_finish, renewed, decide_next}
 use Rattle.writing.specs.Due.{Due, was_due, is-due, due-number}
@@ -49,7 +46,7 @@ room_of_lem p a records k h =
 -- ---- an event
 pub record TookEvent (s : State) (n : ℕ) (a : Ask) (k : Mem) : Type 0 where
   pub to : Typing
-  pub typed : a.typed ≡ Set to
+  pub typed : a.typed ≡ Some to
   pub going : s.waiting ≡ false
   pub own : belongs s.feature n ≡ true
   pub has : Room s.pending a.added (records_for s a) k
@@ -61,9 +58,9 @@ took-event s n a k h = go a.typed (room s.pending a.added (records_for s a) k) r
   where
     go : (o : Typed) (r : Bool) → a.typed ≡ o → room s.pending a.added (records_for s a) k ≡ r → Due s n
         → decide_event s n a (records_lent k.table) (lent_of k.pools) ≡ decide_typed s n a r o → (decide_typed s n a r o).number ≡ 0 → TookEvent s n a k
-    go Mixed r q t due is h = absurd (omega arith)
-    go (Set g) false q t due is h = absurd (omega arith)
-    go (Set g) true q t due is h = record { to = g; typed = q; going = due.turn; own = due.own; has = room_of_lem s.pending a.added (records_for s a) k t; is = is }
+    go None r q t due is h = absurd (omega arith)
+    go (Some g) false q t due is h = absurd (omega arith)
+    go (Some g) true q t due is h = record { to = g; typed = q; going = due.turn; own = due.own; has = room_of_lem s.pending a.added (records_for s a) k t; is = is }
 
 -- ---- finish
 pub record TookFinish (s : State) (k : Mem) : Type 0 where

@@ -1,13 +1,12 @@
 -- A finished tree, read off the memory: record 0 and the parts, as the lists have them.
-use Rattle.std.specs.Prelude.{◌≡◌, refl, List, [], ◌∷◌, ◌++◌, ℕ, ◌+◌, ◌≤◌, ◌<◌, length}
+use Rattle.std.specs.Prelude.{None, Some, ◌≡◌, refl, List, [], ◌∷◌, ◌++◌, ℕ, ◌+◌, ◌≤◌, ◌<◌, length}
 use Rattle.std.proofs.Common.{ap, ◌∙◌, append_assoc, arith, length-append}
 use Rattle.std.proofs.Math.Bool.{true}
 use Rattle.std.proofs.Math.Option.{Option, some}
 use Rattle.std.proofs.Math.ListN.{get_elem?}
 use borrow.Author.Tests.{le-leb, lt-ltb}
 use Rattle.kinds.specs.Lanes.{Lane, usable, span_in, lent_in}
-use Rattle.kinds.specs.declared.geometry.Span.{Span}
-use Rattle.kinds.specs.declared.geometry.Span.TheVariants.{Absent, Stretch}
+use Rattle.kinds.specs.Geometry.{Span}
 use Rattle.store.specs.Lists.{Rec, lent_of, seen, record_with, with_good}
 use Rattle.store.specs.Records.{records_lent, table_good, has_record, record_in, in_pool, in_table, lists_in}
 use Rattle.store.specs.RecordLaws.{InPool, InTable, record_is, good_lent}
@@ -35,12 +34,12 @@ list_holds before (r ∷ rs) = (at before, simp (append_assoc, length-append) at
 
 -- ---- the tests of a record that is where it should be
 pool_in_lem : (span : Span) (n lent most : ℕ) → InPool span n most → n ≤ lent → in_pool span lent most ≡ true
-pool_in_lem Absent n lent most i h = refl
-pool_in_lem (Stretch start count) n lent most i h = rw (le-leb (start + count) lent (omega (arith, i.0)), le-leb (start + count) most i.1)
+pool_in_lem None n lent most i h = refl
+pool_in_lem (Some span) n lent most i h = rw (le-leb (span.start + span.count) lent (omega (arith, i.0)), le-leb (span.start + span.count) most i.1)
 
 table_in : (span : Span) (i n lent : ℕ) → InTable span i n → n ≤ lent → in_table span i lent ≡ true
-table_in Absent i n lent t h = refl
-table_in (Stretch start count) i n lent t h = rw (lt-ltb i start t.0, le-leb (start + count) lent (omega (arith, t.1)), le-leb (start + count) 4096 t.2)
+table_in None i n lent t h = refl
+table_in (Some span) i n lent t h = rw (lt-ltb i span.start t.0, le-leb (span.start + span.count) lent (omega (arith, t.1)), le-leb (span.start + span.count) 4096 t.2)
 
 module _ (s : State) (k : Mem) (w : Writer) (h : Stands s k w) (r : Rec) (waits : w.root ≡ some r) where
   shown : Each (Shows s k) 0 (r ∷ w.parts)

@@ -1,13 +1,11 @@
 -- The writer as the Rust has it, to be held beside feature_writer.rs: types and mode, a vector for each pool, finished parts.
-use Rattle.std.specs.Prelude.{Bool, true, false, cond, ◌||◌, List, [], ◌∷◌, ◌++◌, ℕ, ◌/◌, length, leb, ltb, eqb}
+use Rattle.std.specs.Prelude.{None, Some, Bool, true, false, cond, ◌||◌, List, [], ◌∷◌, ◌++◌, ℕ, ◌/◌, length, leb, ltb, eqb}
 use Rattle.std.proofs.Math.Option.{Option, none, some}
 use Rattle.kinds.specs.Event.{bit_set}
 use Rattle.kinds.specs.declared.event.Event.{Event}
 use Rattle.store.specs.Lists.{Pools, pools_of, Rec}
 use Rattle.asking.specs.declared.typing.Typing.{Typing}
-use Rattle.asking.specs.declared.set_type.Typed.{Typed}
-use Rattle.asking.specs.declared.set_type.Typed.TheVariants.{Set, Mixed}
-use Rattle.asking.specs.SetType.{typing, with_mode, typed_number}
+use Rattle.asking.specs.SetType.{Typed, typing, with_mode, typed_number}
 use Rattle.asking.specs.Ask.{begun, calmed, pushes_end, collects}
 
 -- pending lists belong to no part yet; a finished feature waits while it has a root
@@ -64,8 +62,8 @@ part_if on w = cond on (finish_part w) w
 
 -- ---- a begin, where set_type does not refuse
 abbrev pub typed_to : Writer → Typed → Writer
-typed_to w Mixed = w
-typed_to w (Set h) = retyped w h
+typed_to w None = w
+typed_to w (Some h) = retyped w h
 
 -- ---- xy and coordinate: a pair, and the values that are present
 abbrev pub pushed : Bool → List ℕ → ℕ → List ℕ

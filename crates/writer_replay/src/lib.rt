@@ -1,9 +1,7 @@
-// A row of the writer's calls, case by case: the call, the memory that it is lent, and what differs.
+//! A row of the writer's calls, case by case: the call, the memory that it is lent, and what differs.
 #![tactic(auto)]
 
-mod calls;
 mod memory;
-mod properties;
+mod row;
 
-pub use calls::call;
-pub use properties::property;
+pub use row::Row;

@@ -1,13 +1,11 @@
 -- A call that is accepted was in its turn, and had room.
-use Rattle.std.specs.Prelude.{◌≡◌, refl, Bool, true, false, cond, ℕ, ◌+◌, ◌≤◌}
+use Rattle.std.specs.Prelude.{◌≡◌, refl, Bool, true, false, cond, ℕ, ◌+◌, ◌≤◌, Some, None}
 use Rattle.std.proofs.Common.{ap, arith}
-use Rattle.kinds.specs.declared.geometry.Lent.{Lent}
+use Rattle.kinds.specs.Lanes.{Lent}
 use Rattle.writing.specs.declared.state.State.{State}
-use Rattle.writing.specs.declared.state.Wrote.{Wrote}
-use Rattle.asking.specs.declared.set_type.Typed.{Typed}
-use Rattle.asking.specs.declared.set_type.Typed.TheVariants.{Set, Mixed}
+use Rattle.asking.specs.SetType.{Typed}
 use Rattle.asking.specs.declared.ask.Ask.{Ask}
-use Rattle.writing.specs.State.{records_used, wrote}
+use Rattle.writing.specs.State.{records_used, wrote, Wrote}
 use Rattle.writing.specs.Calls.{records_for, room_or, decide_typed, decide_event, finished, renewed, decide_finish, decide_next}
 use Rattle.writing.specs.Due.{due-number}
 use Rattle.asking.specs.Ask.{no_words}
@@ -22,9 +20,9 @@ has_waited s true r h = h
 has_waited s false r h = absurd (omega arith)
 
 has_type : (s : State) (n : ℕ) (a : Ask) (room : Bool) (t : Typed) → (decide_typed s n a room t).number ≡ 0 → room ≡ true
-has_type s n a room Mixed h = absurd (omega arith)
-has_type s n a true (Set t) h = refl
-has_type s n a false (Set t) h = absurd (omega arith)
+has_type s n a room None h = absurd (omega arith)
+has_type s n a true (Some t) h = refl
+has_type s n a false (Some t) h = absurd (omega arith)
 
 has_room_lem : (s after : State) (room : Bool) → (room_or s room after).number ≡ 0 → room ≡ true
 has_room_lem s after true h = refl

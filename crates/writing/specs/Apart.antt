@@ -1,22 +1,20 @@
 -- Room for what a state uses, asked for once, and room for what one event adds, asked for apart: together they are the test of SPEC 6.19.
-use Rattle.std.specs.Prelude.{◌≡◌, refl, Bool, true, false, cond, not, ◌||◌, List, ℕ, ◌+◌, ◌≤◌, eqb}
+use Rattle.std.specs.Prelude.{◌≡◌, refl, Bool, true, false, cond, not, ◌||◌, List, ℕ, ◌+◌, ◌≤◌, eqb, Some, None}
 use Rattle.std.proofs.Common.{ap, arith}
 use Rattle.std.proofs.lemmas.Bool.{not-true}
 use Rattle.laws.specs.Every.{both}
 use Rattle.kinds.specs.Event.{Parsed, WellFormed, Malformed}
-use Rattle.kinds.specs.declared.geometry.Lent.{Lent}
+use Rattle.kinds.specs.Lanes.{Lent}
 use Rattle.store.specs.Lists.{lent_of}
 use Rattle.event_log.specs.Log.{heard, feature_in}
 use Rattle.store.specs.Records.{records_lent}
 use Rattle.asking.specs.declared.ask.Ask.{Ask}
-use Rattle.asking.specs.declared.set_type.Typed.{Typed}
-use Rattle.asking.specs.declared.set_type.Typed.TheVariants.{Set, Mixed}
+use Rattle.asking.specs.SetType.{Typed}
 use Rattle.writing.specs.declared.state.State.{State}
-use Rattle.pending.specs.Words.{used}
 use Rattle.writing.specs.State.{records_used, Mem}
 use Rattle.writing.specs.Due.{was_due, due-number}
 use Rattle.asking.specs.Ask.{no_words, ask_of}
-use Rattle.pending.specs.Room.{has_room, Room, room_of_lem, has_room_of, room-before, and_true}
+use Rattle.pending.specs.Room.{has_room, room_of_lem, has_room_of, room-before, and_true}
 use Rattle.writing.specs.Calls.{is_ready, records_for, decide_typed, decide_event, event_with, event_of, event_call}
 use Rattle.writing.specs.Ready.{Ready}
 
@@ -45,9 +43,9 @@ was_ready s k bytes = by_record (feature_in bytes) (heard bytes)
   where
     by_case : (n : ℕ) (a : Ask) (room : Bool) (t : Typed) → has_room s.pending a.added (records_for s a) (records_lent k.table) (lent_of k.pools) ≡ room
         → (decide_typed s n a room t).number ≡ 0 → has_room s.pending no_words (records_used s) (records_lent k.table) (lent_of k.pools) ≡ true
-    by_case n a room Mixed has ok = absurd (omega (arith, ok))
-    by_case n a false (Set h) has ok = absurd (omega (arith, ok))
-    by_case n a true (Set h) has ok = room-before s.pending a.added (records_used s) (records_for s a) _ _ (used-before s a.part) has
+    by_case n a room None has ok = absurd (omega (arith, ok))
+    by_case n a false (Some h) has ok = absurd (omega (arith, ok))
+    by_case n a true (Some h) has ok = room-before s.pending a.added (records_used s) (records_for s a) _ _ (used-before s a.part) has
 
     by_record : (n : ℕ) (p : Parsed) → (event_of s k n p).wrote.number ≡ 0 → is_ready s (records_lent k.table) (lent_of k.pools) ≡ true
     by_record n Malformed ok = absurd (omega (arith, ok))

@@ -1,27 +1,21 @@
 -- SPEC 6.4 to 6.24, the writer's calls on lent memory: the number, the next state, and what every pool and the table hold afterwards.
-use Rattle.std.specs.Prelude.{Bool, true, false, cond, not, ◌&&◌, List, [], ◌∷◌, ◌++◌, ℕ, ◌+◌, ◌/◌, take, drop, eqb}
+use Rattle.std.specs.Prelude.{Bool, true, false, cond, not, ◌&&◌, List, [], ◌∷◌, ◌++◌, ℕ, ◌+◌, ◌/◌, take, drop, eqb, Some, None}
 use Rattle.std.proofs.lemmas.List.Edits.{sets}
 use Rattle.kinds.specs.Event.{Parsed, WellFormed, Malformed}
-use Rattle.kinds.specs.Lanes.{Lane, xyL, endsL, zL, mL, tL, tmL, usable}
+use Rattle.kinds.specs.Lanes.{Lane, xyL, endsL, zL, mL, tL, tmL, Lent}
 use Rattle.kinds.specs.declared.event.Event.{Event}
 use Rattle.kinds.specs.declared.geometry.Geometry.{Geometry}
-use Rattle.kinds.specs.declared.geometry.Lent.{Lent}
 use Rattle.store.specs.Lists.{Pools, lent_of}
 use Rattle.event_log.specs.Log.{heard, feature_in}
 use Rattle.store.specs.Records.{records_lent, put_record}
 use Rattle.asking.specs.declared.typing.Typing.{Typing}
-use Rattle.writing.specs.declared.feature.Feature.TheVariants.{Open, Numbered}
 use Rattle.writing.specs.declared.state.State.{State}
-use Rattle.writing.specs.declared.state.Wrote.{Wrote}
-use Rattle.asking.specs.declared.set_type.Typed.{Typed}
-use Rattle.asking.specs.declared.set_type.Typed.TheVariants.{Set, Mixed}
-use Rattle.asking.specs.declared.ask.Added.{Added}
 use Rattle.asking.specs.declared.ask.Ask.{Ask}
-use Rattle.asking.specs.SetType.{typing}
-use Rattle.pending.specs.Words.{words, words_in, pending_of, used}
-use Rattle.writing.specs.State.{fresh, with_typing, with_waiting, with_parts, with_properties, with_feature, with_pending, records_used, pool_in, pools_by, Mem, memory, Outcome, wrote, outcome, settled}
+use Rattle.asking.specs.SetType.{typing, Typed}
+use Rattle.pending.specs.Words.{words_in, pending_of, used}
+use Rattle.writing.specs.State.{fresh, with_typing, with_waiting, with_parts, with_properties, with_feature, with_pending, records_used, pool_in, pools_by, Mem, memory, Outcome, wrote, outcome, settled, Wrote}
 use Rattle.writing.specs.Feature.{belongs}
-use Rattle.asking.specs.Ask.{adds_to, no_words, ask_of}
+use Rattle.asking.specs.Ask.{adds_to, no_words, ask_of, Added}
 use Rattle.pending.specs.Growth.{grown_all, past_all, part_of, root_over, fronted}
 use Rattle.pending.specs.Room.{has_room}
 
@@ -52,7 +46,7 @@ records_for s a = cond a.part (s.parts + 2) (records_used s)
 -- the feature in hand is then that of number n
 unfoldable pub state_after : State → ℕ → Ask → Typing → State
 state_after s n a h =
-    let t : State = with_feature (with_typing s h) (Numbered n) in
+    let t : State = with_feature (with_typing s h) (Some n) in
     cond a.part
     (with_parts (with_pending t (past_all (grown_all s.pending a.added))) (s.parts + 1))
     (with_pending t (grown_all s.pending a.added))
@@ -61,8 +55,8 @@ abbrev pub room_or : State → Bool → State → Wrote
 room_or s room after = cond room (wrote 0 after) (wrote 12 s)
 
 abbrev pub decide_typed : State → ℕ → Ask → Bool → Typed → Wrote
-decide_typed s n a room Mixed = wrote 5 s
-decide_typed s n a room (Set h) = room_or s room (state_after s n a h)
+decide_typed s n a room None = wrote 5 s
+decide_typed s n a room (Some h) = room_or s room (state_after s n a h)
 
 -- in its turn, and of the feature in hand
 unfoldable pub if_due : State → ℕ → Wrote → Wrote
@@ -106,12 +100,12 @@ finish_call s k = settled (decide_finish s (records_lent k.table) (lent_of k.poo
 
 -- ---- next: 15, 12. Parts and properties are emptied, no feature is in hand, the pending words are moved to the front; other words stay
 unfoldable pub renewed : State → State
-renewed s = with_pending (with_feature (with_properties (with_parts (with_waiting s false) 0) 0) Open) (pending_of (λ n. fronted (words_in s.pending n)))
+renewed s = with_pending (with_feature (with_properties (with_parts (with_waiting s false) 0) 0) None) (pending_of (λ n. fronted (words_in s.pending n)))
 
 unfoldable pub decide_next : State → ℕ → Lent → Wrote
 decide_next s records pools = cond s.waiting (room_or s (has_room s.pending no_words (s.parts + 1) records pools) (renewed s)) (wrote 15 s)
 
-abbrev pub moved : List ℕ → ℕ → ℕ → List ℕ
+abbrev pub moved : {A : Type 0} → List A → ℕ → ℕ → List A
 moved l start count = take count (drop start l) ++ drop count l
 
 abbrev pub pool_moved : State → Pools → Lane → List ℕ

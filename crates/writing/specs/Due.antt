@@ -5,8 +5,7 @@ use Rattle.std.proofs.Common.{sym, ap, ◌∙◌, arith}
 use Rattle.std.proofs.Math.Bool.{true, false}
 use Rattle.laws.specs.Cond.{if_so, if_not}
 use Rattle.writing.specs.declared.state.State.{State}
-use Rattle.writing.specs.declared.state.Wrote.{Wrote}
-use Rattle.writing.specs.State.{wrote}
+use Rattle.writing.specs.State.{wrote, Wrote}
 use Rattle.writing.specs.Feature.{belongs}
 use Rattle.writing.specs.Calls.{if_due}
 

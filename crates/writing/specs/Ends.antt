@@ -2,16 +2,14 @@
 use Rattle.std.specs.Prelude.{◌≡◌, refl, Bool, true, false, cond, List, ℕ, ◌+◌}
 use Rattle.std.proofs.Common.{sym, ap, ◌∙◌, eq-eqb, ne_eqb}
 use Rattle.kinds.specs.Event.{Parsed, WellFormed, Malformed}
-use Rattle.kinds.specs.Lanes.{xyL, endsL, zL, mL, tL, tmL}
+use Rattle.kinds.specs.Lanes.{xyL, endsL, zL, mL, tL, tmL, Lent}
 use Rattle.kinds.specs.declared.event.Event.{Event}
-use Rattle.kinds.specs.declared.geometry.Lent.{Lent}
 use Rattle.store.specs.Lists.{lent_of}
 use Rattle.event_log.specs.Log.{heard, feature_in}
 use Rattle.store.specs.Records.{records_lent, put_record}
 use Rattle.writing.specs.declared.state.State.{State}
-use Rattle.writing.specs.declared.state.Wrote.{Wrote}
 use Rattle.asking.specs.declared.ask.Ask.{Ask}
-use Rattle.writing.specs.State.{Mem, memory, mem_of, Outcome, outcome, settled, wrote}
+use Rattle.writing.specs.State.{Mem, memory, mem_of, Outcome, outcome, settled, wrote, Wrote}
 use Rattle.writing.specs.Feature.{belongs}
 use Rattle.writing.specs.Due.{out_of_turn, of_another}
 use Rattle.asking.specs.Ask.{no_words, ask_of}

@@ -1,5 +1,5 @@
 -- A begin that sets a type, or an end: it adds to the ends at most, and asks for room for that and for a part's record.
-use Rattle.std.specs.Prelude.{◌≡◌, refl, true, false, cond, not, ◌&&◌, List, ℕ, ◌+◌, ◌≤◌, ◌<◌, leb}
+use Rattle.std.specs.Prelude.{◌≡◌, refl, true, false, cond, not, ◌&&◌, List, ℕ, ◌+◌, ◌≤◌, ◌<◌, leb, Some, None}
 use Rattle.std.proofs.Common.{sym, subst, ◌∙◌, arith, leb-true, leb-false}
 use Rattle.std.proofs.Math.Path.{ap}
 use Rattle.std.proofs.Math.Bool.{Bool}
@@ -8,21 +8,16 @@ use Rattle.laws.specs.Every.{never, both}
 use Rattle.kinds.specs.LaneLaws.{by_lane}
 use Rattle.kinds.specs.Event.{well_formed}
 use Rattle.kinds.specs.EventLaws.{no_kind}
-use Rattle.kinds.specs.Lanes.{xyL, endsL, zL, mL, tL, tmL}
+use Rattle.kinds.specs.Lanes.{xyL, endsL, zL, mL, tL, tmL, Lent}
 use Rattle.kinds.specs.declared.event.Event.{Event}
-use Rattle.kinds.specs.declared.geometry.Lent.{Lent}
 use Rattle.event_log.specs.LogLaws.{HeardOther, heard-event}
-use Rattle.asking.specs.declared.ask.Added.{Added}
 use Rattle.asking.specs.declared.ask.Ask.{Ask}
-use Rattle.asking.specs.declared.set_type.Typed.{Typed}
-use Rattle.asking.specs.declared.set_type.Typed.TheVariants.{Set, Mixed}
+use Rattle.asking.specs.SetType.{Typed}
 use Rattle.asking.specs.declared.typing.Typing.{Typing}
-use Rattle.writing.specs.declared.feature.Feature.TheVariants.{Numbered}
 use Rattle.writing.specs.declared.state.State.{State}
-use Rattle.writing.specs.declared.state.Wrote.{Wrote}
 use Rattle.pending.specs.Words.{used}
-use Rattle.writing.specs.State.{records_used, wrote}
-use Rattle.asking.specs.Ask.{no_words, end_if, ask, OnlyEnds}
+use Rattle.writing.specs.State.{records_used, wrote, Wrote}
+use Rattle.asking.specs.Ask.{no_words, end_if, ask, OnlyEnds, Added}
 use Rattle.pending.specs.Room.{room_in, has_room, Fits, room_in_lem, and_true, room_tested, room_apart}
 use Rattle.writing.specs.Calls.{is_ready, records_for, state_after, decide_typed, if_due, decide_event}
 use Rattle.writing.specs.Feature.{belongs}
@@ -80,14 +75,14 @@ module _ (s : State) (n : ℕ) (a : Ask) (ready : Bool) (records ends : ℕ) whe
     unfolding decide_other
     by-typed t e h = h ∙ ap (decide_typed s n a (ready && other_room s a records ends)) (sym e) ∙ when-due s n _ (record { turn = turn; own = own })
 
-    pub other-mixed : a.typed ≡ Mixed → wrote 5 s ≡ decide_other s n a ready records ends
-    other-mixed e = by-typed Mixed e refl
+    pub other-mixed : a.typed ≡ None → wrote 5 s ≡ decide_other s n a ready records ends
+    other-mixed e = by-typed None e refl
 
-    pub other-done : {after : State} (h : Typing) → a.typed ≡ Set h → (ready && other_room s a records ends) ≡ true → after ≡ state_after s n a h → wrote 0 after ≡ decide_other s n a ready records ends
-    other-done h e room is = by-typed (Set h) e (if_so _ room (ap (wrote 0) is))
+    pub other-done : {after : State} (h : Typing) → a.typed ≡ Some h → (ready && other_room s a records ends) ≡ true → after ≡ state_after s n a h → wrote 0 after ≡ decide_other s n a ready records ends
+    other-done h e room is = by-typed (Some h) e (if_so _ room (ap (wrote 0) is))
 
-    pub other_full : (h : Typing) → a.typed ≡ Set h → (ready && other_room s a records ends) ≡ false → wrote 12 s ≡ decide_other s n a ready records ends
-    other_full h e full = by-typed (Set h) e (if_not _ full refl)
+    pub other_full : (h : Typing) → a.typed ≡ Some h → (ready && other_room s a records ends) ≡ false → wrote 12 s ≡ decide_other s n a ready records ends
+    other_full h e full = by-typed (Some h) e (if_not _ full refl)
 
 -- where a begin or an end is accepted, the writer was ready and there was room
 pub other_accepted : (s : State) (n : ℕ) (a : Ask) (ready : Bool) (records ends : ℕ) → (decide_other s n a ready records ends).number ≡ 0 → (ready ≡ true) × (other_room s a records ends ≡ true)
@@ -95,27 +90,27 @@ unfolding decide_other
 other_accepted s n a ready records ends ok = by_case (ready && other_room s a records ends) a.typed refl (due-number s n _ ok)
   where
     by_case : (room : Bool) (t : Typed) → (ready && other_room s a records ends) ≡ room → (decide_typed s n a room t).number ≡ 0 → (ready ≡ true) × (other_room s a records ends ≡ true)
-    by_case room Mixed is ok = absurd (omega (arith, ok))
-    by_case false (Set h) is ok = absurd (omega (arith, ok))
-    by_case true (Set h) is ok = both ready (other_room s a records ends) is
+    by_case room None is ok = absurd (omega (arith, ok))
+    by_case false (Some h) is ok = absurd (omega (arith, ok))
+    by_case true (Some h) is ok = both ready (other_room s a records ends) is
 
 -- and its feature is in hand then
-pub after-held : (s : State) (n : ℕ) (a : Ask) (h : Typing) → (state_after s n a h).feature ≡ Numbered n
+pub after-held : (s : State) (n : ℕ) (a : Ask) (h : Typing) → (state_after s n a h).feature ≡ Some n
 unfolding state_after
 after-held s n a h = by_part a.part
   where
-    by_part : (part : Bool) → (state_after s n (ask a.typed a.added part) h).feature ≡ Numbered n
+    by_part : (part : Bool) → (state_after s n (ask a.typed a.added part) h).feature ≡ Some n
     by_part true = refl
     by_part false = refl
 
-pub other-held : (s : State) (n : ℕ) (a : Ask) (ready : Bool) (records ends : ℕ) → (decide_other s n a ready records ends).number ≡ 0 → (decide_other s n a ready records ends).state.feature ≡ Numbered n
+pub other-held : (s : State) (n : ℕ) (a : Ask) (ready : Bool) (records ends : ℕ) → (decide_other s n a ready records ends).number ≡ 0 → (decide_other s n a ready records ends).state.feature ≡ Some n
 unfolding decide_other
 other-held s n a ready records ends ok = ap (λ (w : Wrote). w.state.feature) (is-due s n _ ok) ∙ by_case (ready && other_room s a records ends) a.typed (due-number s n _ ok)
   where
-    by_case : (room : Bool) (t : Typed) → (decide_typed s n a room t).number ≡ 0 → (decide_typed s n a room t).state.feature ≡ Numbered n
-    by_case room Mixed ok = absurd (omega (arith, ok))
-    by_case false (Set h) ok = absurd (omega (arith, ok))
-    by_case true (Set h) ok = after-held s n a h
+    by_case : (room : Bool) (t : Typed) → (decide_typed s n a room t).number ≡ 0 → (decide_typed s n a room t).state.feature ≡ Some n
+    by_case room None ok = absurd (omega (arith, ok))
+    by_case false (Some h) ok = absurd (omega (arith, ok))
+    by_case true (Some h) ok = after-held s n a h
 
 -- ---- the test of room is that of readiness and its own
 module _ (s : State) (typed : Typed) (end part : Bool) (records : ℕ) (pools : Lent) where

@@ -1,23 +1,19 @@
 -- What an accepted event leaves: a writer in its turn, with room for all that it uses.
-use Rattle.std.specs.Prelude.{◌≡◌, Bool, cond, not, ◌||◌, List, ℕ, ◌+◌, ◌≤◌, eqb}
+use Rattle.std.specs.Prelude.{◌≡◌, Bool, cond, not, ◌||◌, List, ℕ, ◌+◌, ◌≤◌, eqb, Some, None}
 use Rattle.std.proofs.Math.Path.{refl, subst}
 use Rattle.std.proofs.Common.{sym, arith}
 use Rattle.std.proofs.Math.Bool.{true, false}
-use Rattle.kinds.specs.Lanes.{usable, lent_in}
+use Rattle.kinds.specs.Lanes.{usable, lent_in, Lent}
 use Rattle.kinds.specs.Event.{Parsed, WellFormed, Malformed}
-use Rattle.kinds.specs.declared.geometry.Lent.{Lent}
 use Rattle.store.specs.Lists.{lent_of}
 use Rattle.event_log.specs.Log.{heard, feature_in}
 use Rattle.store.specs.Records.{records_lent}
 use Rattle.asking.specs.declared.typing.Typing.{Typing}
-use Rattle.pending.specs.declared.words.Pending.{Pending}
-use Rattle.writing.specs.declared.feature.Feature.TheVariants.{Numbered}
+use Rattle.pending.specs.Words.{Pending}
 use Rattle.writing.specs.declared.state.State.{State}
-use Rattle.writing.specs.declared.state.Wrote.{Wrote}
-use Rattle.asking.specs.declared.set_type.Typed.{Typed}
-use Rattle.asking.specs.declared.set_type.Typed.TheVariants.{Set, Mixed}
+use Rattle.asking.specs.SetType.{Typed}
 use Rattle.asking.specs.declared.ask.Ask.{Ask}
-use Rattle.writing.specs.State.{with_typing, with_parts, with_feature, with_pending, records_used, Mem}
+use Rattle.writing.specs.State.{with_typing, with_parts, with_feature, with_pending, records_used, Mem, Wrote}
 use Rattle.writing.specs.Due.{was_due, is-due, due-number}
 use Rattle.pending.specs.Growth.{grown_all, past_all}
 use Rattle.asking.specs.Ask.{no_words, ask_of}
@@ -44,7 +40,7 @@ module _ (s : State) (n : ℕ) (a : Ask) (records : ℕ) (pools : Lent) where
       grown = grown_all s.pending a.added
 
       then : State
-      then = with_feature (with_typing s h) (Numbered n)
+      then = with_feature (with_typing s h) (Some n)
 
       by_part : (b : Bool) → Room s.pending a.added (cond b (s.parts + 2) (records_used s)) records pools
           → Ready (cond b (with_parts (with_pending then (past_all grown)) (s.parts + 1)) (with_pending then grown)) records pools
@@ -78,9 +74,9 @@ module _ (s : State) (n : ℕ) (a : Ask) (records : ℕ) (pools : Lent) where
     where
       by_case : (room : Bool) (t : Typed) → s.waiting ≡ false → has_room s.pending a.added (records_for s a) records pools ≡ room
           → (decide_typed s n a room t).number ≡ 0 → Ready (decide_typed s n a room t).state records pools
-      by_case room Mixed turn has ok = absurd (omega arith)
-      by_case false (Set h) turn has ok = absurd (omega arith)
-      by_case true (Set h) turn has ok = after-ready h turn (room_of_lem _ _ _ _ _ has)
+      by_case room None turn has ok = absurd (omega arith)
+      by_case false (Some h) turn has ok = absurd (omega arith)
+      by_case true (Some h) turn has ok = after-ready h turn (room_of_lem _ _ _ _ _ has)
 
 pub event-ready : (s : State) (k : Mem) (bytes : List ℕ) → (event_call s k bytes).wrote.number ≡ 0 → Ready (event_call s k bytes).wrote.state (records_lent k.table) (lent_of k.pools)
 unfolding event_call event_with

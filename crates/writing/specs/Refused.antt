@@ -1,16 +1,14 @@
 -- A refused call changes neither the state nor any lent list.
-use Rattle.std.specs.Prelude.{◌≡◌, refl, Bool, true, false, cond, List, ℕ, ◌+◌}
+use Rattle.std.specs.Prelude.{◌≡◌, refl, Bool, true, false, cond, List, ℕ, ◌+◌, Some, None}
 use Rattle.std.proofs.Common.{ap, ne_eqb}
 use Rattle.kinds.specs.Event.{Parsed}
 use Rattle.kinds.specs.Event.{WellFormed, Malformed}
-use Rattle.kinds.specs.declared.geometry.Lent.{Lent}
+use Rattle.kinds.specs.Lanes.{Lent}
 use Rattle.event_log.specs.Log.{heard, feature_in}
 use Rattle.writing.specs.declared.state.State.{State}
-use Rattle.writing.specs.declared.state.Wrote.{Wrote}
-use Rattle.asking.specs.declared.set_type.Typed.{Typed}
-use Rattle.asking.specs.declared.set_type.Typed.TheVariants.{Set, Mixed}
+use Rattle.asking.specs.SetType.{Typed}
 use Rattle.asking.specs.declared.ask.Ask.{Ask}
-use Rattle.writing.specs.State.{Mem, Outcome, outcome, settled, wrote}
+use Rattle.writing.specs.State.{Mem, Outcome, outcome, settled, wrote, Wrote}
 use Rattle.writing.specs.Due.{each-due}
 use Rattle.asking.specs.Ask.{no_words, ask_of}
 use Rattle.pending.specs.Room.{has_room}
@@ -28,8 +26,8 @@ room-kept s after true h = absurd (h refl)
 room-kept s after false h = refl
 
 typed-kept : (s : State) (n : ℕ) (a : Ask) (room : Bool) (t : Typed) → Kept s (decide_typed s n a room t)
-typed-kept s n a room Mixed h = refl
-typed-kept s n a room (Set t) h = room-kept s (state_after s n a t) room h
+typed-kept s n a room None h = refl
+typed-kept s n a room (Some t) h = room-kept s (state_after s n a t) room h
 
 turn-kept : (s : State) (b : Bool) (r : Wrote) → Kept s r → Kept s (cond b (wrote 15 s) r)
 turn-kept s true r kept h = refl

@@ -1,19 +1,19 @@
 -- SPEC 6.1, 4.5: a writer's state by lane, the lent memory, and what the state uses of it.
-use Rattle.std.specs.Prelude.{Bool, false, cond, not, ◌||◌, List, ℕ, ◌+◌, eqb}
+use Rattle.std.specs.Prelude.{◌≡◌, refl, Bool, false, cond, not, ◌||◌, List, ℕ, ◌+◌, eqb, None, Result}
+use Rattle.std.proofs.Common.{Ok, Err}
 use Rattle.kinds.specs.Lanes.{Lane, xyL, endsL, zL, mL, tL, tmL}
+use Rattle.kinds.specs.Refusal.{number_of, answer_of}
+use Rattle.kinds.specs.declared.refusal.Refusal.{Refusal}
 use Rattle.store.specs.Lists.{Pools, pools_of}
 use Rattle.asking.specs.declared.typing.Typing.{Typing}
-use Rattle.pending.specs.declared.words.Pending.{Pending}
-use Rattle.writing.specs.declared.feature.Feature.{Feature}
-use Rattle.writing.specs.declared.feature.Feature.TheVariants.{Open}
+use Rattle.writing.specs.Feature.{Feature}
 use Rattle.writing.specs.declared.state.State.{State}
-use Rattle.writing.specs.declared.state.Wrote.{Wrote}
 use Rattle.asking.specs.SetType.{typing}
-use Rattle.pending.specs.Words.{words, pending_of}
+use Rattle.pending.specs.Words.{words, pending_of, Pending}
 
 -- ---- a writer that nothing was given; every other state is one that a call changed, field by field
 abbrev pub fresh : State
-fresh = record { typing = typing 0 false false 0 0; waiting = false; parts = 0; properties = 0; feature = Open; pending = pending_of (λ n. words 0 0) }
+fresh = record { typing = typing 0 false false 0 0; waiting = false; parts = 0; properties = 0; feature = None; pending = pending_of (λ n. words 0 0) }
 
 abbrev pub with_typing : State → Typing → State
 with_typing s h = record { typing = h; waiting = s.waiting; parts = s.parts; properties = s.properties; feature = s.feature; pending = s.pending }
@@ -60,13 +60,27 @@ memory table pools = record { table = table; pools = pools }
 abbrev pub mem_of : List ℕ → List ℕ → List ℕ → List ℕ → List ℕ → List ℕ → List ℕ → Mem
 mem_of table xy ends z m t tm = memory table (pools_of xy ends z m t tm)
 
+-- ---- what a call answers: its number, 0 for done, and the state, as it stood where the number is another
+pub record Wrote : Type 0 where
+  pub number : ℕ
+  pub state : State
+
+abbrev pub wrote : ℕ → State → Wrote
+wrote number s = record { number = number; state = s }
+
+-- what an answer comes to, where s is the state before
+abbrev pub wrote_of : State → Result State Refusal → Wrote
+wrote_of s (Ok after) = wrote 0 after
+wrote_of s (Err refusal) = wrote (number_of refusal) s
+
+pub wrote-number : (s : State) (r : Result State Refusal) → (wrote_of s r).number ≡ answer_of r
+wrote-number s (Ok after) = refl
+wrote-number s (Err refusal) = refl
+
 -- ---- what a call comes to: answer, state, and the final contents of all lent memory
 pub record Outcome : Type 0 where
   pub wrote : Wrote
   pub mem : Mem
-
-abbrev pub wrote : ℕ → State → Wrote
-wrote number s = record { number = number; state = s }
 
 abbrev pub outcome : Wrote → Mem → Outcome
 outcome r k = record { wrote = r; mem = k }

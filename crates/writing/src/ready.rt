@@ -5,8 +5,8 @@ ghost use Rattle.writing.specs.Calls.{records_for, is_ready};
 ghost use Rattle.writing.specs.Other.{other_room};
 
 use crate::state::State;
-use asking::ask::{Added, Ask};
-use kinds::geometry::Lent;
+use asking::ask::{Ask, NO_WORDS};
+use kinds::lanes::Lent;
 use kinds::usable;
 use pending::room::{has_room, lane_room, room_in};
 use pending::words::Words;
@@ -35,7 +35,7 @@ pub fn records_for(s: State, a: Ask) -> usize
 pub fn is_ready(s: State, records: usize, pools: Lent) -> bool
     ensures { result ≡ is_ready s records pools }
 {
-    !s.waiting & has_room(s.pending, Added::NONE, records_used(s), records, pools)
+    !s.waiting & has_room(s.pending, NO_WORDS, records_used(s), records, pools)
 }
 
 // Room for what a begin or an end adds.

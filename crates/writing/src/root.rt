@@ -6,6 +6,7 @@ use crate::state::State;
 use kinds::geometry::Geometry;
 use pending::part::{part_of, root_over};
 
+#[tactic(auto, unfolding(crate::specs::Calls::root_of))]
 pub fn root_of(s: State) -> Geometry
     ensures { result ≡ root_of s }
 {

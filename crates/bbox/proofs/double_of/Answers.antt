@@ -4,6 +4,3 @@ use Rattle.bbox.proofs.double_of.Goals as goal
 
 pub returns-then-is_nan : goal.returns-then-is_nan
 returns-then-is_nan c = zero_by_zero ∙ sym (nan_of _ (sym c.is_nan.ensures ∙ c.if-is_nan.true))
-
-pub float_from_bits-result : goal.float_from_bits-result
-float_from_bits-result c = rw (← c.is_nan.ensures, c.if-is_nan.false) tt

@@ -1,14 +1,6 @@
-use mathlib.Core.Path.{refl}
+use Rattle.std.proofs.Common.{ap, ◌∙◌}
+use Rattle.as_words.specs.Words.{words_after}
 use Rattle.bintolage.proofs.bintolage_property.Goals as goal
 
-pub returns : goal.returns
-returns c =
-    rw (
-      c.keep.ensures.value,
-      c.keep.ensures.words_after,
-      c.property-put.ensures.answer,
-      c.property-put.ensures.place,
-      c.property-put.ensures.bytes,
-      c.state_of.ensures,
-    )
-    (record { answer = refl; words = refl; bytes = refl; place = refl })
+pub returns-in-Ok-clause-words : goal.returns-in-Ok-clause-words
+returns-in-Ok-clause-words c = c.keep.ensures.words_after c.state_of.result ∙ ap (words_after c.args.state.now) (rw c.state_of.ensures at c.in-Ok.ensures.answer)

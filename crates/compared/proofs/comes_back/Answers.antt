@@ -1,4 +1,4 @@
-use Prim.Native.Nat.{◌*◌, ◌-◌}
+use Prim.Native.Nat.{◌*◌}
 use native.Mathlib.Omega.{arith}
 use Rattle.compared.specs.ComparedLaws.{never, as_given}
 use Rattle.compared.proofs.comes_back.Goals as goal
@@ -19,7 +19,7 @@ returns c =
     c.same.result
     args.events
     args.count
-    (64 * args.events - 0)
+    (64 * args.events)
     args.sent.now
     args.log.now
     c.if-count-events.false

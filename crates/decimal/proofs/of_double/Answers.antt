@@ -1,13 +1,6 @@
-use borrow.Author.Tests.{eq-eqb, ne_eqb}
-use Rattle.laws.specs.Cond.{if_so, if_not}
-use Rattle.decimal.specs.Magnitude.{magnitude, of_double}
+use Rattle.decimal.specs.Magnitude.{of_double}
 use Rattle.decimal.proofs.of_double.Goals as goal
 
-pub returns-then-exponent-eq-DOUBLE_SPECIAL : goal.returns-then-exponent-eq-DOUBLE_SPECIAL
-returns-then-exponent-eq-DOUBLE_SPECIAL c = unfold magnitude of_double in if_so _ (eq-eqb _ _ c.if-exponent-eq-DOUBLE_SPECIAL.true) c.special.ensures
-
-pub returns-then-exponent-eq0 : goal.returns-then-exponent-eq0
-returns-then-exponent-eq0 c = unfold magnitude of_double in if_not _ (ne_eqb _ _ c.if-exponent-eq-DOUBLE_SPECIAL.false) (if_so _ (eq-eqb _ _ c.if-exponent-eq0.true) c.finite.ensures)
-
 pub returns : goal.returns
-returns c = unfold magnitude of_double in if_not _ (ne_eqb _ _ c.if-exponent-eq-DOUBLE_SPECIAL.false) (if_not _ (ne_eqb _ _ c.if-exponent-eq0.false) c.finite-2.ensures)
+unfolding of_double
+returns c = c.magnitude.ensures

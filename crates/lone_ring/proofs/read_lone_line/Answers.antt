@@ -1,13 +1,18 @@
-use Rattle.laws.specs.Framed.{no_begin, no_body, to_end}
-use Rattle.event_log.specs.Log.{events}
+use Rattle.std.proofs.lemmas.Result.{err_from_is_err_and}
+use Rattle.event_log.specs.Says.{of_events}
+use Rattle.event_log.specs.SaysLaws.{no_begin, no_body, whole_frame}
 use Rattle.lone_ring.specs.Lone.{lone_line}
 use Rattle.lone_ring.proofs.read_lone_line.Goals as goal
 
-pub returns-then-b-ne-DONE : goal.returns-then-b-ne-DONE
-returns-then-b-ne-DONE c = let a = c.args in rw (lone_line a.xy.now) (no_begin (events a.feature) _ _ _ _ c.begin.ensures c.say-b.ensures c.if-b-ne-DONE.true)
+pub returns-in_err-say : goal.returns-in_err-say
+returns-in_err-say c =
+    let p = err_from_is_err_and c.from_residual.result c.from_residual.ensures.1 in
+    rw (p.1, p.2, lone_line c.args.ring.xy.now) (no_begin of_events _ _ c.begin.ensures c.in_err-say.ensures)
 
-pub returns-then-r-ne-DONE : goal.returns-then-r-ne-DONE
-returns-then-r-ne-DONE c = let a = c.args in rw (lone_line a.xy.now) (no_body (events a.feature) _ _ _ _ c.begin.ensures c.say-b.ensures c.if-b-ne-DONE.false c.read_lone_pairs-r.ensures c.if-r-ne-DONE.true)
+pub returns-in_err-read_lone_pairs : goal.returns-in_err-read_lone_pairs
+returns-in_err-read_lone_pairs c =
+    let p = err_from_is_err_and c.from_residual-in_err-read_lone_pairs.result c.from_residual-in_err-read_lone_pairs.ensures.1 in
+    rw (p.1, p.2, lone_line c.args.ring.xy.now) (no_body of_events _ c.begin.ensures c.in_ok-say.ensures c.in_err-read_lone_pairs.ensures)
 
 pub returns : goal.returns
-returns c = let a = c.args in rw (lone_line a.xy.now) (to_end (events a.feature) _ _ _ _ c.begin.ensures c.say-b.ensures c.if-b-ne-DONE.false c.read_lone_pairs-r.ensures c.if-r-ne-DONE.false c.end.ensures c.say.ensures)
+returns c = rw (lone_line c.args.ring.xy.now) (whole_frame of_events c.begin.ensures c.in_ok-say.ensures c.in_ok-read_lone_pairs.ensures c.end.ensures c.say-2.ensures)

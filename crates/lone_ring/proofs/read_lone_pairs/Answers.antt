@@ -1,21 +1,22 @@
-use borrow.Author.Rules.{rules}
-use mathlib.Core.Path.{refl}
-use Rattle.laws.specs.Framed.{went_on, broke_off, ended}
-use Rattle.event_log.specs.Log.{events}
-use Rattle.lone_ring.specs.Lone.{lone_end, lone_odd, lone_next}
+use Rattle.std.proofs.Common.{arith, ◌≡◌, ◌/◌, length}
+use Rattle.std.proofs.lemmas.Result.{err_from_is_err_and}
+use Rattle.event_log.specs.Says.{of_events}
+use Rattle.event_log.specs.SaysLaws.{nothing, refuses, goes-on, ends, breaks-off}
+use Rattle.lone_ring.specs.Lone.{lone_over, lone_odd, lone_next}
 use Rattle.lone_ring.proofs.read_lone_pairs.Goals as goal
 
-pub loop-i-init : goal.loop-i-init
-loop-i-init c = (search rules, refl, refl, refl)
-
-pub returns-then-xy-i-lt2 : goal.returns-then-xy-i-lt2
-returns-then-xy-i-lt2 c = let s = c.args in let l = c.loop-i in ended (events s.feature) _ _ 7 l.invariant.3 (lone_odd s.xy.now l.i l.n c.loop-i-test.true c.if-xy-i-lt2.true)
-
-pub returns-then-r-ne-DONE : goal.returns-then-r-ne-DONE
-returns-then-r-ne-DONE c = let s = c.args in let l = c.loop-i in broke_off (events s.feature) _ _ _ _ l.invariant.3 (lone_next s.xy.now l.i l.n c.if-xy-i-lt2.false c.xy.ensures) c.say-r.ensures c.if-r-ne-DONE.true
+pub returns-in_err-say : goal.returns-in_err-say
+returns-in_err-say c =
+    let p = err_from_is_err_and c.from_residual.result c.from_residual.ensures.1 in
+    rw (p.1, p.2) (breaks-off of_events _ _ c.loop-i.invariant (lone_next c.args.ring.xy.now c.loop-i.i c.xy.result c.loop-i-test.true c.xy.ensures) c.in_err-say.ensures)
 
 pub loop-i-preserved : goal.loop-i-preserved
-loop-i-preserved c = (search rules, search rules, search rules, let s = c.args in let l = c.loop-i in went_on (events s.feature) _ _ _ _ l.invariant.3 (lone_next s.xy.now l.i l.n c.if-xy-i-lt2.false c.xy.ensures) c.say-r.ensures c.if-r-ne-DONE.false)
+loop-i-preserved c = goes-on of_events _ _ c.loop-i.invariant (lone_next c.args.ring.xy.now c.loop-i.i c.xy.result c.loop-i-test.true c.xy.ensures) c.in_ok-say.ensures
+
+pub returns-then-xy-ne0 : goal.returns-then-xy-ne0
+returns-then-xy-ne0 c =
+    let k : c.loop-i.i ≡ length c.args.ring.xy.now / 2 = omega arith in
+    ends of_events c.loop-i.invariant (lone_odd c.args.ring.xy.now c.loop-i.i k c.if-xy-ne0.true) (refuses of_events _ _)
 
 pub returns : goal.returns
-returns c = let s = c.args in let l = c.loop-i in ended (events s.feature) _ _ 0 l.invariant.3 (lone_end s.xy.now l.i l.n c.loop-i-test.false)
+returns c = ends of_events c.loop-i.invariant (lone_over c.args.ring.xy.now c.loop-i.i (omega arith) c.if-xy-ne0.false) (nothing of_events _)

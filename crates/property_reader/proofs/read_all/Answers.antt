@@ -1,58 +1,72 @@
-use mathlib.Core.Path.{sym, ◌∙◌}
+use mathlib.Core.Path.{◌≡◌, refl, sym, ap, ◌∙◌}
 use native.Mathlib.Omega.{arith}
-use Rattle.property_reader.specs.ReadingSteps.{begun, skipped_ahead, found_ahead, at-end, at_refused, at_not_utf8, at_skipped, at_full, at_last, at_next}
+use Prim.Native.Nat.{ℕ}
+use Rattle.std.specs.Prelude.{Option, Some, None}
+use Rattle.std.proofs.lemmas.Result.{err_from_is_err_and}
+use Rattle.kinds.specs.declared.value.Value.{Value}
+use Rattle.property_reader.specs.declared.item.Property.{Property}
+use Rattle.property_reader.specs.Reading.{Item, End, Skipped, Found, property_as, end_or}
+use Rattle.property_reader.specs.ReadingSteps.{begun, leads, at-end, at_refused, at_skipped, at_full, at_last, at_next}
 use Rattle.property_reader.proofs.read_all.Goals as goal
 
-pub loop-number-init : goal.loop-number-init
-loop-number-init c =
-    let start = c.args in
-    begun start.bytes.now start.columns.now start.stop start.log.now
+-- the item, from the property that is answered, and from its value
+ends : (o : Option Property) (i : Item) → ((p : Property) → o ≡ Some p → ⊥) → end_or o ≡ i → End ≡ i
+ends None i none e = e
+ends (Some p) i none e = absurd (none p refl)
 
-pub item_at-item-requires : goal.item_at-item-requires
-item_at-item-requires c = c.loop-number.invariant.inside
+stands : (o : Option Property) (p : Property) (i : Item) → o ≡ Some p → end_or o ≡ i → property_as p.value p.next ≡ i
+stands o p i is e = ap end_or (sym is) ∙ e
 
-pub shape_of-log-in-End : goal.shape_of-log-in-End
-shape_of-log-in-End c = c.loop-number.invariant.long
+skips : (o : Option Value) (next : ℕ) (i : Item) → ((v : Value) → o ≡ Some v → ⊥) → property_as o next ≡ i → Skipped next ≡ i
+skips None next i none e = e
+skips (Some v) next i none e = absurd (none v refl)
 
-pub returns-in-End : goal.returns-in-End
-returns-in-End c = rw c.ended.ensures (let r = at-end c.loop-number.invariant (sym c.in-End.is ∙ c.item_at-item.ensures) in record { log_value = r.0; stopped_value = r.1.0; place_value = r.1.1 })
+finds : (o : Option Value) (v : Value) (next : ℕ) (i : Item) → o ≡ Some v → property_as o next ≡ i → Found v next ≡ i
+finds o v next i is e = ap (λ (x : Option Value). property_as x next) (sym is) ∙ e
 
-pub shape_of-log-in-Refused : goal.shape_of-log-in-Refused
-shape_of-log-in-Refused c = c.loop-number.invariant.long
+pub loop-property-init : goal.loop-property-init
+loop-property-init c =
+    let a = c.args in
+    begun a.bytes.now a.columns.now a.stop a.log.now
 
-pub returns-in-Refused : goal.returns-in-Refused
-returns-in-Refused c = rw c.ended-in-Refused.ensures (let r = at_refused c.loop-number.invariant c.in-Refused.number (sym c.in-Refused.is ∙ c.item_at-item.ensures) in record { log_value = r.0; stopped_value = r.1.0; place_value = r.1.1 })
+pub property_at-requires : goal.property_at-requires
+property_at-requires c = c.loop-property.invariant.inside
 
-pub shape_of-log-in-NotUtf8 : goal.shape_of-log-in-NotUtf8
-shape_of-log-in-NotUtf8 c = c.loop-number.invariant.long
+pub returns-in_err-property : goal.returns-in_err-property
+returns-in_err-property c =
+    let gone = err_from_is_err_and c.from_residual.result c.from_residual.ensures.1 in
+    rw (gone.1, gone.2) (at_refused c.loop-property.invariant c.in_err-property.field-0.0 c.in_err-property.ensures)
 
-pub returns-in-NotUtf8 : goal.returns-in-NotUtf8
-returns-in-NotUtf8 c = let r = at_not_utf8 c.loop-number.invariant c.in-NotUtf8.place (sym c.in-NotUtf8.is ∙ c.item_at-item.ensures) in record { log_value = r.0; stopped_value = r.1.0; place_value = r.1.1 }
-
-pub loop-number-smaller-in-Skipped : goal.loop-number-smaller-in-Skipped
-loop-number-smaller-in-Skipped c = omega (arith, skipped_ahead c.loop-number.invariant c.in-Skipped.next (sym c.in-Skipped.is ∙ c.item_at-item.ensures))
-
-pub loop-number-preserved-in-Skipped : goal.loop-number-preserved-in-Skipped
-loop-number-preserved-in-Skipped c = at_skipped c.loop-number.invariant c.in-Skipped.next (sym c.in-Skipped.is ∙ c.item_at-item.ensures)
-
-pub shape_of-log-then-said-ne-DONE : goal.shape_of-log-then-said-ne-DONE
-shape_of-log-then-said-ne-DONE c = c.say_value-said.auto.log ∙ c.loop-number.invariant.long
-
-pub returns-then-said-ne-DONE : goal.returns-then-said-ne-DONE
-returns-then-said-ne-DONE c = rw c.ended-then-said-ne-DONE.ensures (let r = at_full c.loop-number.invariant c.in-Found.value c.in-Found.next (sym c.in-Found.is ∙ c.item_at-item.ensures) c.say_value-said.ensures c.if-said-ne-DONE.true in record { log_value = r.0; stopped_value = r.1.0; place_value = r.1.1 })
-
-pub shape_of-log-then-value-stop : goal.shape_of-log-then-value-stop
-shape_of-log-then-value-stop c = c.say_value-said.auto.log ∙ c.loop-number.invariant.long
+pub returns-in_err-say : goal.returns-in_err-say
+returns-in_err-say c =
+    let gone = err_from_is_err_and c.from_residual-in_err-say.result c.from_residual-in_err-say.ensures.1 in
+    let item = finds _ c.in-Some-value.value _ _ c.in-Some-value.is (stands _ c.in-Some.property _ c.in-Some.is c.in_ok-property.ensures) in
+    rw (gone.1, gone.2) (at_full c.loop-property.invariant c.in-Some-value.value _ item c.in_err-say.ensures)
 
 pub returns-then-value-stop : goal.returns-then-value-stop
 returns-then-value-stop c =
-    let r = at_last c.loop-number.invariant c.in-Found.value c.in-Found.next (sym c.in-Found.is ∙ c.item_at-item.ensures) c.say_value-said.ensures c.if-said-ne-DONE.false
-    c.if-value-stop.true in record { log_value = r.0; stopped_value = r.1.0; place_value = r.1.1 }
+    let item = finds _ c.in-Some-value.value _ _ c.in-Some-value.is (stands _ c.in-Some.property _ c.in-Some.is c.in_ok-property.ensures) in
+    at_last c.loop-property.invariant c.in-Some-value.value _ item c.in_ok-say.ensures c.if-value-stop.true
 
-pub loop-number-smaller : goal.loop-number-smaller
-loop-number-smaller c = omega (arith, found_ahead c.loop-number.invariant c.in-Found.value c.in-Found.next (sym c.in-Found.is ∙ c.item_at-item.ensures))
+pub loop-property-smaller-else-value-stop : goal.loop-property-smaller-else-value-stop
+loop-property-smaller-else-value-stop c =
+    let next = leads c.loop-property.invariant c.in-Some.property.value c.in-Some.property.next (stands _ c.in-Some.property _ c.in-Some.is c.in_ok-property.ensures) in
+    omega (arith, next.0, next.1)
 
-pub loop-number-preserved : goal.loop-number-preserved
-loop-number-preserved c =
-    at_next c.loop-number.invariant c.in-Found.value c.in-Found.next (sym c.in-Found.is ∙ c.item_at-item.ensures) c.say_value-said.ensures c.if-said-ne-DONE.false
-    c.if-value-stop.false c.say_value-said.auto.log
+pub loop-property-preserved-else-value-stop : goal.loop-property-preserved-else-value-stop
+loop-property-preserved-else-value-stop c =
+    let item = finds _ c.in-Some-value.value _ _ c.in-Some-value.is (stands _ c.in-Some.property _ c.in-Some.is c.in_ok-property.ensures) in
+    at_next c.loop-property.invariant c.in-Some-value.value _ item c.in_ok-say.ensures c.if-value-stop.false
+
+pub loop-property-smaller : goal.loop-property-smaller
+loop-property-smaller c =
+    let next = leads c.loop-property.invariant c.in-Some.property.value c.in-Some.property.next (stands _ c.in-Some.property _ c.in-Some.is c.in_ok-property.ensures) in
+    omega (arith, next.0, next.1)
+
+pub loop-property-preserved : goal.loop-property-preserved
+loop-property-preserved c =
+    let item = skips _ _ _ c.in_default-value.not-Some (stands _ c.in-Some.property _ c.in-Some.is c.in_ok-property.ensures) in
+    at_skipped c.loop-property.invariant _ item
+
+pub returns : goal.returns
+returns c = at-end c.loop-property.invariant (ends _ _ c.in_default.not-Some c.in_ok-property.ensures)

@@ -1,8 +1,8 @@
 use Rattle.std.specs.Prelude.{◌≡◌, ◌+◌, ◌≤◌, ℕ, List, Bool, length}
-use Rattle.std.proofs.Common.{arith, sym, ap, ◌∙◌}
-use Rattle.property_writer.specs.declared.PropertyPut.{PropertyPut}
+use Rattle.std.proofs.Common.{arith}
+use Rattle.std.proofs.lemmas.Result.{err_from_is_err_and}
 use Rattle.property_writer.specs.Writing.{refusal_of, property_length}
-use Rattle.property_writer.specs.WritingLaws.{accepted, length_property, refused, put-done, bytes-done}
+use Rattle.property_writer.specs.WritingLaws.{accepted, length_property, put-refused, put-done, bytes-done}
 use Rattle.property_writer.proofs.put_property.Goals as goal
 
 -- what is used after a write stays within the usable bytes
@@ -11,54 +11,37 @@ grown : (waiting : Bool) (used column kind bits : ℕ) (text : List ℕ) (lent s
 grown waiting used column kind bits text lent size none sized =
     omega (arith, (accepted waiting used column kind bits text lent none).usable, length_property column kind bits text)
 
-pub returns-then-judged-ne-DONE : goal.returns-then-judged-ne-DONE
-returns-then-judged-ne-DONE c =
+pub returns-in_err-kind : goal.returns-in_err-kind
+returns-in_err-kind c =
     let a = c.args in
-    let refusal = c.refusal_of-judged.ensures in
-    let number = ap (λ (r : PropertyPut). r.number) refusal in
-    let stays = refused a.waiting a.used a.column a.kind a.bits a.text.now a.buffer.now _ number c.if-judged-ne-DONE.true in
-    record { answer = rw refusal (rw number at stays.0); bytes = stays.1 }
-
-pub overflow_cast-column : goal.overflow_cast-column
-overflow_cast-column c =
-    let a = c.args in
-    let none : refusal_of a.waiting a.used a.column a.kind a.bits a.text.now (length a.buffer.now) ≡ 0 =
-    sym (ap (λ (r : PropertyPut). r.number) c.refusal_of-judged.ensures) ∙ c.if-judged-ne-DONE.false in
-    let facts = accepted a.waiting a.used a.column a.kind a.bits a.text.now (length a.buffer.now) none in
-    omega (arith, facts.index)
+    let gone = err_from_is_err_and c.from_residual.result c.from_residual.ensures.1 in
+    let stays = put-refused a.waiting a.used a.property.column a.property.kind a.property.bits a.property.text.now a.buffer.now c.in_err-kind.field-0.0 c.in_err-kind.ensures in
+    rw (gone.1, gone.2) (record { answer = stays.0; bytes = stays.1 })
 
 pub lay_property-requires : goal.lay_property-requires
 lay_property-requires c =
     let a = c.args in
-    let none : refusal_of a.waiting a.used a.column a.kind a.bits a.text.now (length a.buffer.now) ≡ 0 =
-    sym (ap (λ (r : PropertyPut). r.number) c.refusal_of-judged.ensures) ∙ c.if-judged-ne-DONE.false in
-    let facts = accepted a.waiting a.used a.column a.kind a.bits a.text.now (length a.buffer.now) none in
-    record { text_in_bounds = facts.room; exact = facts.exact }
+    let facts = accepted a.waiting a.used a.property.column a.property.kind a.property.bits a.property.text.now (length a.buffer.now) c.in_ok-kind.ensures.0 in
+    rw c.in_ok-kind.ensures.1 (record { index = facts.index; text_in_bounds = facts.room; exact = facts.exact })
 
 pub overflow_cast-result : goal.overflow_cast-result
 overflow_cast-result c =
     let a = c.args in
-    let none : refusal_of a.waiting a.used a.column a.kind a.bits a.text.now (length a.buffer.now) ≡ 0 =
-    sym (ap (λ (r : PropertyPut). r.number) c.refusal_of-judged.ensures) ∙ c.if-judged-ne-DONE.false in
-    omega (arith, grown a.waiting a.used a.column a.kind a.bits a.text.now (length a.buffer.now) _ none c.property_length.ensures)
+    let sized : c.property_length.result ≡ property_length a.property.kind a.property.text.now = rw c.in_ok-kind.ensures.1 at c.property_length.ensures in
+    omega (arith, grown a.waiting a.used a.property.column a.property.kind a.property.bits a.property.text.now (length a.buffer.now) _ c.in_ok-kind.ensures.0 sized)
 
 pub overflow_add-result : goal.overflow_add-result
 overflow_add-result c =
     let a = c.args in
-    let none : refusal_of a.waiting a.used a.column a.kind a.bits a.text.now (length a.buffer.now) ≡ 0 =
-    sym (ap (λ (r : PropertyPut). r.number) c.refusal_of-judged.ensures) ∙ c.if-judged-ne-DONE.false in
-    omega (arith, grown a.waiting a.used a.column a.kind a.bits a.text.now (length a.buffer.now) _ none c.property_length.ensures)
+    let sized : c.property_length.result ≡ property_length a.property.kind a.property.text.now = rw c.in_ok-kind.ensures.1 at c.property_length.ensures in
+    omega (arith, grown a.waiting a.used a.property.column a.property.kind a.property.bits a.property.text.now (length a.buffer.now) _ c.in_ok-kind.ensures.0 sized)
 
 pub returns : goal.returns
 returns c =
     let a = c.args in
-    let none : refusal_of a.waiting a.used a.column a.kind a.bits a.text.now (length a.buffer.now) ≡ 0 =
-    sym (ap (λ (r : PropertyPut). r.number) c.refusal_of-judged.ensures) ∙ c.if-judged-ne-DONE.false in
+    let none = c.in_ok-kind.ensures.0 in
+    let sized : c.property_length.result ≡ property_length a.property.kind a.property.text.now = rw c.in_ok-kind.ensures.1 at c.property_length.ensures in
     record {
-      answer = rw (
-        put-done a.waiting a.used a.column a.kind a.bits a.text.now a.buffer.now none,
-        length_property a.column a.kind a.bits a.text.now,
-        ← c.property_length.ensures,
-      );
-      bytes = rw (bytes-done a.waiting a.used a.column a.kind a.bits a.text.now a.buffer.now none) c.lay_property.ensures;
+      answer = rw (put-done a.waiting a.used a.property.column a.property.kind a.property.bits a.property.text.now a.buffer.now none, length_property a.property.column a.property.kind a.property.bits a.property.text.now, ← sized);
+      bytes = rw (bytes-done a.waiting a.used a.property.column a.property.kind a.property.bits a.property.text.now a.buffer.now none) (rw c.in_ok-kind.ensures.1 at c.lay_property.ensures);
     }

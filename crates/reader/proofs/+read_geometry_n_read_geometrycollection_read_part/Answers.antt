@@ -1,109 +1,85 @@
-use Rattle.std.proofs.Common.{arith, rules, false, ◌-◌, refl, sym, ap, subst, ◌∙◌}
-use native.Mathlib.Nat.{add-zero, sub-zero, pos_of_ne-zero}
-use Rattle.laws.specs.Script.{Script, run}
-use Rattle.laws.specs.Framed.{went_on, broke_off, ended, no_begin, began}
-use Rattle.kinds.specs.declared.event.Event.{Event}
-use Rattle.store.specs.Lists.{pools_of, lists_of, record_with}
-use Rattle.event_log.specs.Log.{events}
-use Rattle.walks.specs.declared.walk.Walk.{Walk}
-use Rattle.reader.proofs.Lone.{part_lone}
-use Rattle.walks.specs.Walks.{Typed}
+use Rattle.std.proofs.Common.{Ok, Err, arith}
+use Rattle.std.proofs.lemmas.Result.{err_from_is_err_and}
+use native.Mathlib.Nat.{pos_of_ne-zero}
+use Rattle.kinds.specs.GeometryType.{number}
+use Rattle.store.specs.Lists.{pools_in, lists_of, record_with}
+use Rattle.event_log.specs.Says.{of_events}
+use Rattle.event_log.specs.SaysLaws.{refuses, goes-on, ends, breaks-off, no_begin}
 use Rattle.reader.specs.Roles.{part_s, walk_s}
-use Rattle.walks.specs.WalkLaws.{in_typed}
-use Rattle.reader.proofs.RoleLaws.{part_deep, part_bad, part_good, good_record, good_lists, bad_record, walk-own, walk-parts, walk_refused, span_absent, span_there, parts-step, parts-over}
+use Rattle.reader.proofs.Lone.{part_lone}
+use Rattle.reader.proofs.RoleLaws.{part_deep, part_bad, part_good, good_record, good_lists, bad_record, span_absent, span_there, parts-step, parts-over, framed_by}
 use Rattle.reader.proofs.+read_geometry_n_read_geometrycollection_read_part.Goals as goal
 
 -- ---- a record by its walk
-pub read_geometry_n-read_geometrycollection-requires : goal.read_geometry_n-read_geometrycollection-requires
-read_geometry_n-read_geometrycollection-requires t c = (omega (arith, c.decreases), subst Typed c.in-Parts.is c.requires.1)
-
 pub read_geometry_n-returns-in-Own : goal.read_geometry_n-returns-in-Own
-read_geometry_n-returns-in-Own t c =
-    let a = c.args in
-    let P = pools_of a.xy.now a.ends.now a.z.now a.m.now a.t.now a.tm.now in
-    rw (walk-own a.flags a.levels (record_with a.table.now P) (lists_of P a.g) a.idx c.in-Own.is) c.read_own.ensures
+unfolding walk_s
+read_geometry_n-returns-in-Own t c = rw c.in-Own.is c.read_own.ensures
 
 pub read_geometry_n-returns-in-Parts : goal.read_geometry_n-returns-in-Parts
-read_geometry_n-returns-in-Parts t c =
-    let a = c.args in
-    let P = pools_of a.xy.now a.ends.now a.z.now a.m.now a.t.now a.tm.now in
-    rw (walk-parts a.flags a.levels (record_with a.table.now P) (lists_of P a.g) a.idx c.in-Parts.is) c.read_geometrycollection.ensures
-
-pub read_geometry_n-returns-in-Refused : goal.read_geometry_n-returns-in-Refused
-read_geometry_n-returns-in-Refused t c =
-    let a = c.args in
-    let P = pools_of a.xy.now a.ends.now a.z.now a.m.now a.t.now a.tm.now in
-    ended (events a.feature) _ _ _ refl (walk_refused a.flags a.levels (record_with a.table.now P) (lists_of P a.g) a.idx c.in-Refused.is)
+unfolding walk_s
+read_geometry_n-returns-in-Parts t c = rw c.in-Parts.is c.read_geometrycollection.ensures
 
 -- ---- a record's parts
 pub read_geometrycollection-returns-in_default : goal.read_geometrycollection-returns-in_default
 read_geometrycollection-returns-in_default t c =
     let a = c.args in
-    let P = pools_of a.xy.now a.ends.now a.z.now a.m.now a.t.now a.tm.now in
-    ended (events a.feature) _ _ 2 refl (span_absent (part_s a.flags a.role a.levels (record_with a.table.now P)) a.kind a.idx c.in_default.is)
+    rw (span_absent (part_s a.flags a.role a.levels (record_with a.store.now.table.now (pools_in a.store.now.pools))) (number a.kind) a.idx c.in_default.is) (refuses of_events _ _)
 
-pub read_geometrycollection-returns-then-b-ne-DONE : goal.read_geometrycollection-returns-then-b-ne-DONE
-read_geometrycollection-returns-then-b-ne-DONE t c =
+pub read_geometrycollection-returns-in_err-say : goal.read_geometrycollection-returns-in_err-say
+read_geometrycollection-returns-in_err-say t c =
     let a = c.args in
-    let P = pools_of a.xy.now a.ends.now a.z.now a.m.now a.t.now a.tm.now in
-    rw (span_there (part_s a.flags a.role a.levels (record_with a.table.now P)) a.kind a.idx c.in-Stretch.is) (no_begin (events a.feature) _ _ _ _ c.begin.ensures c.say-b.ensures c.if-b-ne-DONE.true)
+    let p = err_from_is_err_and c.from_residual.result c.from_residual.ensures.1 in
+    rw (p.1, p.2, span_there (part_s a.flags a.role a.levels (record_with a.store.now.table.now (pools_in a.store.now.pools))) (number a.kind) a.idx c.in-Some.is) (no_begin of_events _ _ c.begin.ensures c.in_err-say.ensures)
 
-pub read_geometrycollection-loop-i-init : goal.read_geometrycollection-loop-i-init
-read_geometrycollection-loop-i-init t c = (search rules, refl, rw (sub-zero, add-zero))
-
-pub read_geometrycollection-read_part-r-requires : goal.read_geometrycollection-read_part-r-requires
-read_geometrycollection-read_part-r-requires t c = (omega (arith, c.decreases), tt)
-
-pub read_geometrycollection-returns-then-r-ne-DONE : goal.read_geometrycollection-returns-then-r-ne-DONE
-read_geometrycollection-returns-then-r-ne-DONE t c =
+pub read_geometrycollection-returns-in_err-read_part : goal.read_geometrycollection-returns-in_err-read_part
+read_geometrycollection-returns-in_err-read_part t c =
     let a = c.args in
-    let P = pools_of a.xy.now a.ends.now a.z.now a.m.now a.t.now a.tm.now in
-    rw (span_there (part_s a.flags a.role a.levels (record_with a.table.now P)) a.kind a.idx c.in-Stretch.is)
-    (broke_off (events a.feature) _ _ _ _ {L' = c.read_part-r.new.log} (began (events a.feature) _ _ _ _ c.begin.ensures c.say-b.ensures c.if-b-ne-DONE.false ∙ c.loop-i.invariant.2) (parts-step _ _ _ c.loop-i-test.true) c.read_part-r.ensures c.if-r-ne-DONE.true)
+    let p = err_from_is_err_and c.from_residual-in_err-read_part.result c.from_residual-in_err-read_part.ensures.1 in
+    rw (p.1, p.2, span_there (part_s a.flags a.role a.levels (record_with a.store.now.table.now (pools_in a.store.now.pools))) (number a.kind) a.idx c.in-Some.is)
+    (framed_by of_events _ _ c.begin.ensures c.in_ok-say.ensures (breaks-off of_events _ _ c.loop-i.invariant (parts-step _ _ _ c.loop-i-test.true) c.in_err-read_part.ensures))
 
 pub read_geometrycollection-loop-i-preserved : goal.read_geometrycollection-loop-i-preserved
-read_geometrycollection-loop-i-preserved t c =
-    let a = c.args in
-    (search rules, search rules, went_on (events a.feature) _ _ _ _ {L' = c.read_part-r.new.log} c.loop-i.invariant.2 (parts-step _ _ _ c.loop-i-test.true) c.read_part-r.ensures c.if-r-ne-DONE.false)
+read_geometrycollection-loop-i-preserved t c = goes-on of_events _ _ c.loop-i.invariant (parts-step _ _ _ c.loop-i-test.true) c.in_ok-read_part.ensures
 
 pub read_geometrycollection-returns : goal.read_geometrycollection-returns
 read_geometrycollection-returns t c =
     let a = c.args in
-    let P = pools_of a.xy.now a.ends.now a.z.now a.m.now a.t.now a.tm.now in
-    let l = c.loop-i in
-    rw (span_there (part_s a.flags a.role a.levels (record_with a.table.now P)) a.kind a.idx c.in-Stretch.is)
-    (began (events a.feature) _ _ _ _ c.begin.ensures c.say-b.ensures c.if-b-ne-DONE.false ∙ l.invariant.2 ∙ ap (λ (s : Script Event). run (events a.feature) s l.log l.said) (parts-over _ _ _ c.loop-i-test.false) ∙ (rw c.end.ensures at c.say.ensures))
+    rw (span_there (part_s a.flags a.role a.levels (record_with a.store.now.table.now (pools_in a.store.now.pools))) (number a.kind) a.idx c.in-Some.is)
+    (framed_by of_events _ _ c.begin.ensures c.in_ok-say.ensures (ends of_events c.loop-i.invariant (parts-over _ _ _ c.loop-i-test.false) (rw c.end.ensures at c.say-2.ensures)))
 
 -- ---- a part
 pub read_part-returns-then-levels-eq0 : goal.read_part-returns-then-levels-eq0
 read_part-returns-then-levels-eq0 t c =
     let a = c.args in
-    let P = pools_of a.xy.now a.ends.now a.z.now a.m.now a.t.now a.tm.now in
-    ended (events a.feature) _ _ 13 refl (part_deep a.flags a.role a.levels (record_with a.table.now P) a.n a.idx c.if-levels-eq0.true)
+    rw (part_deep a.flags a.role a.levels (record_with a.store.now.table.now (pools_in a.store.now.pools)) a.n a.idx c.if-levels-eq0.true) (refuses of_events _ _)
 
-pub read_part-returns-in-List : goal.read_part-returns-in-List
-read_part-returns-in-List t c =
+pub read_part-returns-in-Some : goal.read_part-returns-in-Some
+read_part-returns-in-Some t c =
     let a = c.args in
-    let P = pools_of a.xy.now a.ends.now a.z.now a.m.now a.t.now a.tm.now in
-    rw (part_lone a.flags a.role a.table.now P a.n c.lone_part.ensures c.in-List.is a.levels a.idx c.if-levels-eq0.false) c.read_lone_ring.ensures
+    rw (part_lone a.flags a.role a.store.now.table.now (pools_in a.store.now.pools) a.n c.lone_part.ensures c.in-Some.is a.levels a.idx c.if-levels-eq0.false) c.read_lone_ring.ensures
+
+pub read_part-returns-in_default-record : goal.read_part-returns-in_default-record
+read_part-returns-in_default-record t c =
+    let a = c.args in
+    let P = pools_in a.store.now.pools in
+    rw (part_bad a.flags a.role a.levels (record_with a.store.now.table.now P) a.n a.idx c.if-levels-eq0.false (bad_record a.store.now.table.now P a.n c.record.ensures c.in_default-record.is)) (refuses of_events _ _)
+
+pub read_part-returns-in_err-walk : goal.read_part-returns-in_err-walk
+read_part-returns-in_err-walk t c =
+    let a = c.args in
+    let P = pools_in a.store.now.pools in
+    let p = err_from_is_err_and c.from_residual.result c.from_residual.ensures.1 in
+    rw (p.1, p.2, part_good a.flags a.role a.levels (record_with a.store.now.table.now P) a.n a.idx c.if-levels-eq0.false (lists_of P c.in-Some-record.g) (good_record a.store.now.table.now P a.n c.record.ensures c.in-Some-record.is) (Err c.in_err-walk.field-0.0) c.in_err-walk.ensures)
+    (refuses of_events _ _)
 
 pub read_part-read_geometry_n-requires : goal.read_part-read_geometry_n-requires
 read_part-read_geometry_n-requires t c =
     let a = c.args in
-    let P = pools_of a.xy.now a.ends.now a.z.now a.m.now a.t.now a.tm.now in
-    (omega (arith, pos_of_ne-zero c.if-levels-eq0.false, c.decreases), (good_lists a.table.now P a.n c.new-pools.ensures c.record_at.ensures c.in-Good.is, rw c.walk_in-walk.ensures (in_typed a.role _)))
+    (omega (arith, pos_of_ne-zero c.if-levels-eq0.false, c.decreases), good_lists a.store.now.table.now (pools_in a.store.now.pools) a.n c.record.ensures c.in-Some-record.is)
 
-pub read_part-returns-in-Good : goal.read_part-returns-in-Good
-read_part-returns-in-Good t c =
+pub read_part-returns : goal.read_part-returns
+read_part-returns t c =
     let a = c.args in
-    let P = pools_of a.xy.now a.ends.now a.z.now a.m.now a.t.now a.tm.now in
-    rw
-    (part_good a.flags a.role a.levels (record_with a.table.now P) a.n a.idx c.if-levels-eq0.false (lists_of P c.in-Good.g) (good_record a.table.now P a.n c.new-pools.ensures c.record_at.ensures c.in-Good.is)
-    ∙ ap (λ (w : Walk). walk_s a.flags (a.levels - 1) (record_with a.table.now P) (lists_of P c.in-Good.g) w a.idx) (sym c.walk_in-walk.ensures))
+    let P = pools_in a.store.now.pools in
+    rw (part_good a.flags a.role a.levels (record_with a.store.now.table.now P) a.n a.idx c.if-levels-eq0.false (lists_of P c.in-Some-record.g) (good_record a.store.now.table.now P a.n c.record.ensures c.in-Some-record.is) (Ok c.in_ok-walk.walk) c.in_ok-walk.ensures)
     c.read_geometry_n.ensures
-
-pub read_part-returns-in-Bad : goal.read_part-returns-in-Bad
-read_part-returns-in-Bad t c =
-    let a = c.args in
-    let P = pools_of a.xy.now a.ends.now a.z.now a.m.now a.t.now a.tm.now in
-    ended (events a.feature) _ _ 10 refl (part_bad a.flags a.role a.levels (record_with a.table.now P) a.n a.idx c.if-levels-eq0.false (bad_record a.table.now P a.n c.new-pools.ensures c.record_at.ensures c.in-Bad.is))

@@ -1,9 +1,10 @@
 -- A record is read at most two calls below its part, and its parts one level below it.
-use Rattle.std.proofs.Common.{◌≡◌, ◌+◌, ◌-◌, ◌*◌, ◌≤◌, length, false}
-use Rattle.laws.specs.Script.{one, ◌⨟◌, run}
+use Rattle.std.proofs.Common.{◌+◌, ◌-◌, ◌*◌, false}
+use Rattle.laws.specs.Script.{one, ◌⨟◌}
 use Rattle.kinds.specs.Event.{end_e}
-use Rattle.store.specs.Lists.{pools_of, record_with}
-use Rattle.event_log.specs.Log.{events}
+use Rattle.kinds.specs.GeometryType.{number}
+use Rattle.store.specs.Lists.{pools_in, record_with}
+use Rattle.event_log.specs.Says.{Going, of_events}
 use Rattle.reader.specs.Reading.{parts_s}
 use Rattle.reader.specs.Roles.{part_s}
 use Rattle.reader.proofs.+read_geometry_n_read_geometrycollection_read_part.Given as goal
@@ -19,8 +20,7 @@ decreases-read_part l = 4 * l.levels
 
 abbrev pub invariant-read_geometrycollection-loop-i : goal.invariant-read_geometrycollection-loop-i
 invariant-read_geometrycollection-loop-i l =
-    (l.i ≤ l.size) × (length l.log ≡ length l.initial.log)
-    × (run (events l.feature) (parts_s (part_s l.flags l.role l.levels (record_with l.table (pools_of l.xy l.ends l.z l.m l.t l.tm))) l.size l.start 0 ⨟ one (end_e l.kind false l.idx)) l.initial.log l.initial.said ≡ run (events l.feature) (parts_s (part_s l.flags l.role l.levels (record_with l.table (pools_of l.xy l.ends l.z l.m l.t l.tm))) (l.size - l.i) (l.start + l.i) l.i ⨟ one (end_e l.kind false l.idx)) l.log l.said)
-
-abbrev pub decreases-read_geometrycollection-loop-i : goal.decreases-read_geometrycollection-loop-i
-decreases-read_geometrycollection-loop-i l = l.size - l.i
+    Going of_events
+    (parts_s (part_s l.flags l.role l.levels (record_with l.store.table.now (pools_in l.store.pools))) l.count l.start 0 ⨟ one (end_e (number l.head.kind) false l.idx))
+    (parts_s (part_s l.flags l.role l.levels (record_with l.store.table.now (pools_in l.store.pools))) (l.count - l.i) (l.start + l.i) l.i ⨟ one (end_e (number l.head.kind) false l.idx))
+    l.initial.log l.log

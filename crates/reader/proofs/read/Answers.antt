@@ -1,21 +1,28 @@
-use mathlib.Core.Path.{refl, sym, ap, ◌∙◌}
-use Prim.Native.Nat.{ℕ}
-use Rattle.laws.specs.Cut.{said}
-use Rattle.laws.specs.Framed.{ended}
-use Rattle.store.specs.Lists.{pools_of, lists_of, record_with}
-use Rattle.event_log.specs.Log.{events}
-use Rattle.walks.specs.declared.walk.Walk.{Walk}
-use Rattle.walks.specs.Walks.{walk_of}
-use Rattle.reader.specs.Roles.{walk_s}
-use Rattle.walks.specs.WalkLaws.{walk-typed}
+use Rattle.std.proofs.lemmas.Result.{err_from_is_err_and}
+use Rattle.store.specs.Lists.{pools_in, lists_of, record_with}
+use Rattle.event_log.specs.Says.{of_events}
+use Rattle.event_log.specs.SaysLaws.{refuses}
 use Rattle.reader.proofs.RoleLaws.{read_good, read_bad, good_record, good_lists, bad_record}
 use Rattle.reader.proofs.read.Goals as goal
 
+pub returns-in_default : goal.returns-in_default
+returns-in_default c =
+    let a = c.args in
+    let P = pools_in a.store.now.pools in
+    rw (read_bad a.flags (record_with a.store.now.table.now P) a.declared (bad_record a.store.now.table.now P 0 c.record.ensures c.in_default.is)) (refuses of_events _ _)
+
+pub returns-in_err-walk : goal.returns-in_err-walk
+returns-in_err-walk c =
+    let a = c.args in
+    let P = pools_in a.store.now.pools in
+    let p = err_from_is_err_and c.from_residual.result c.from_residual.ensures.1 in
+    rw (p.1, p.2, read_good a.flags (record_with a.store.now.table.now P) a.declared (lists_of P c.in-Some.g) (good_record a.store.now.table.now P 0 c.record.ensures c.in-Some.is) (rw c.type_of.ensures at c.in_err-walk.ensures)) (refuses of_events _ _)
+
 pub read_geometry_n-requires : goal.read_geometry_n-requires
-read_geometry_n-requires c = let a = c.args in (good_lists a.table.now (pools_of a.xy.now a.ends.now a.z.now a.m.now a.t.now a.tm.now) 0 c.new-pools.ensures c.record_at.ensures c.in-Good.is, rw c.walk_of-walk.ensures (walk-typed _ _))
+read_geometry_n-requires c = let a = c.args in good_lists a.store.now.table.now (pools_in a.store.now.pools) 0 c.record.ensures c.in-Some.is
 
-pub returns-in-Good : goal.returns-in-Good
-returns-in-Good c = let a = c.args in said (events a.feature) (rw (read_good a.flags (record_with a.table.now (pools_of a.xy.now a.ends.now a.z.now a.m.now a.t.now a.tm.now)) a.declared (lists_of (pools_of a.xy.now a.ends.now a.z.now a.m.now a.t.now a.tm.now) c.in-Good.g) (good_record a.table.now (pools_of a.xy.now a.ends.now a.z.now a.m.now a.t.now a.tm.now) 0 c.new-pools.ensures c.record_at.ensures c.in-Good.is) ∙ ap (λ (w : Walk). walk_s a.flags 15 (record_with a.table.now (pools_of a.xy.now a.ends.now a.z.now a.m.now a.t.now a.tm.now)) (lists_of (pools_of a.xy.now a.ends.now a.z.now a.m.now a.t.now a.tm.now) c.in-Good.g) w 0) (sym (c.walk_of-walk.ensures ∙ ap (λ (k : ℕ). walk_of k c.in-Good.g.kind) c.type_of.ensures))) c.read_geometry_n.ensures)
-
-pub returns-in-Bad : goal.returns-in-Bad
-returns-in-Bad c = let a = c.args in said (events a.feature) (ended (events a.feature) _ _ 10 refl (read_bad a.flags (record_with a.table.now (pools_of a.xy.now a.ends.now a.z.now a.m.now a.t.now a.tm.now)) a.declared (bad_record a.table.now (pools_of a.xy.now a.ends.now a.z.now a.m.now a.t.now a.tm.now) 0 c.new-pools.ensures c.record_at.ensures c.in-Bad.is)))
+pub returns : goal.returns
+returns c =
+    let a = c.args in
+    let P = pools_in a.store.now.pools in
+    rw (read_good a.flags (record_with a.store.now.table.now P) a.declared (lists_of P c.in-Some.g) (good_record a.store.now.table.now P 0 c.record.ensures c.in-Some.is) (rw c.type_of.ensures at c.in_ok-walk.ensures)) c.read_geometry_n.ensures

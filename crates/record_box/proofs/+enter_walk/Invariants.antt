@@ -1,5 +1,7 @@
-use Rattle.std.proofs.Common.{◌-◌, ◌≡◌, ◌+◌, ◌*◌, ◌≤◌}
-use Rattle.tree_walk.specs.Memory.{next, parts_kept, marking, kept, uncounted}
+use Rattle.std.proofs.Common.{◌-◌, ◌≡◌, ◌+◌, ◌*◌}
+use Rattle.store.specs.Lists.{lent_of, pools_in}
+use Rattle.tree_walk.specs.Marked.{numbers_of}
+use Rattle.tree_walk.specs.Memory.{next, parts_kept, marking, walked, kept, uncounted}
 use Rattle.tree_walk.specs.Records.{parts_lent}
 use Rattle.record_box.specs.Lent.{own_lent}
 use Rattle.record_box.proofs.+enter_walk.Given as goal
@@ -10,12 +12,11 @@ decreases-enter l = 2 * l.levels + 1
 abbrev pub decreases-walk : goal.decreases-walk
 decreases-walk l = 2 * l.levels
 
-abbrev pub invariant-walk-loop-i : goal.invariant-walk-loop-i
-invariant-walk-loop-i l =
-    let part = kept uncounted (parts_lent l.fn.table l.lent) (own_lent l.fn.table l.lent l.fn.xy) (l.levels - 1) in
-    (l.i ≤ l.count)
-    × (next (parts_kept part l.count l.first l.initial.so_far l.fn.marks 0) (marking l.n l.levels)
-    ≡ next (parts_kept part (l.count - l.i) (l.first + l.i) l.so_far l.marks 0) (marking l.n l.levels))
-
-abbrev pub decreases-walk-loop-i : goal.decreases-walk-loop-i
-decreases-walk-loop-i l = l.count - l.i
+-- what the whole record comes to is what is left comes to, from the box and the marks so far
+abbrev pub invariant-walk-loop-part : goal.invariant-walk-loop-part
+invariant-walk-loop-part l =
+    let P = pools_in l.fn.store.pools in
+    let get = parts_lent l.fn.store.table.now (lent_of P) in
+    let own = own_lent l.fn.store.table.now (lent_of P) P.xy in
+    let part = kept uncounted get own (l.levels - 1) in
+    walked get own part l.levels l.n l.fn.around (numbers_of l.fn.marks) 0 ≡ next (parts_kept part (l.end - l.part) l.part l.so_far (numbers_of l.marks) 0) (marking l.n l.levels)

@@ -1,17 +1,23 @@
-use Rattle.laws.specs.Framed.{no_begin, no_body, to_end}
-use Rattle.event_log.specs.Log.{events}
-use mathlib.Core.Path.{ap, ◌∙◌}
-use Prim.Native.Nat.{ℕ}
-use mathlib.Core.Bool.{false}
+use Rattle.std.proofs.Common.{ap, ◌∙◌, ℕ, false}
+use Rattle.std.proofs.lemmas.Result.{err_from_is_err_and}
 use Rattle.kinds.specs.Event.{begin_e}
+use Rattle.event_log.specs.Says.{of_events}
+use Rattle.event_log.specs.SaysLaws.{no_begin, no_body, whole_frame}
 use Rattle.lines.specs.Lines.{tin_s}
 use Rattle.triangles.proofs.read_tin.Goals as goal
 
-pub returns-then-b-ne-DONE : goal.returns-then-b-ne-DONE
-returns-then-b-ne-DONE c = unfold tin_s in let a = c.args in no_begin (events a.feature) _ _ _ _ (c.begin.ensures ∙ ap (λ (k : ℕ). begin_e 16 false k a.idx) c.stretches-size.ensures) c.say-b.ensures c.if-b-ne-DONE.true
+pub returns-in_err-say : goal.returns-in_err-say
+unfolding tin_s
+returns-in_err-say c =
+    let p = err_from_is_err_and c.from_residual.result c.from_residual.ensures.1 in
+    rw (p.1, p.2) (no_begin of_events _ _ (c.begin.ensures ∙ ap (λ (k : ℕ). begin_e 16 false k c.args.idx) c.stretches.ensures) c.in_err-say.ensures)
 
-pub returns-then-r-ne-DONE : goal.returns-then-r-ne-DONE
-returns-then-r-ne-DONE c = unfold tin_s in let a = c.args in no_body (events a.feature) _ _ _ _ (c.begin.ensures ∙ ap (λ (k : ℕ). begin_e 16 false k a.idx) c.stretches-size.ensures) c.say-b.ensures c.if-b-ne-DONE.false c.read_triangle-r.ensures c.if-r-ne-DONE.true
+pub returns-in_err-read_triangle : goal.returns-in_err-read_triangle
+unfolding tin_s
+returns-in_err-read_triangle c =
+    let p = err_from_is_err_and c.from_residual-in_err-read_triangle.result c.from_residual-in_err-read_triangle.ensures.1 in
+    rw (p.1, p.2) (no_body of_events _ (c.begin.ensures ∙ ap (λ (k : ℕ). begin_e 16 false k c.args.idx) c.stretches.ensures) c.in_ok-say.ensures c.in_err-read_triangle.ensures)
 
 pub returns : goal.returns
-returns c = unfold tin_s in let a = c.args in to_end (events a.feature) _ _ _ _ (c.begin.ensures ∙ ap (λ (k : ℕ). begin_e 16 false k a.idx) c.stretches-size.ensures) c.say-b.ensures c.if-b-ne-DONE.false c.read_triangle-r.ensures c.if-r-ne-DONE.false c.end.ensures c.say.ensures
+unfolding tin_s
+returns c = whole_frame of_events (c.begin.ensures ∙ ap (λ (k : ℕ). begin_e 16 false k c.args.idx) c.stretches.ensures) c.in_ok-say.ensures c.in_ok-read_triangle.ensures c.end.ensures c.say-2.ensures

@@ -1,19 +1,25 @@
-use borrow.Author.Rules.{rules}
-use mathlib.Core.Path.{refl}
-use Rattle.event_log.specs.Log.{events}
-use Rattle.laws.specs.Framed.{went_on, broke_off, ended}
-use Rattle.coords.specs.Seen.{coords_in}
+use Rattle.std.proofs.lemmas.Result.{err_from_is_err_and}
+use Rattle.event_log.specs.Says.{of_events}
+use Rattle.event_log.specs.SaysLaws.{nothing, goes-on, ends, breaks-off}
+use Rattle.coords.specs.Views.{coords_in}
 use Rattle.triangles.specs.Laws.{triangles_next, triangles_end}
 use Rattle.triangles.proofs.read_triangles.Goals as goal
 
-pub loop-i-init : goal.loop-i-init
-loop-i-init c = (search rules, search rules, refl, refl)
-
-pub returns-then-r-ne-DONE : goal.returns-then-r-ne-DONE
-returns-then-r-ne-DONE c = let a = c.args in let l = c.loop-i in broke_off (events a.feature) _ _ _ _ {L' = c.read_triangle_at-r.new.log} l.invariant.3 (triangles_next (coords_in a.seen a.xy.now a.z.now a.m.now a.t.now a.tm.now) a.ends.now l.before l.i l.i a.tagged c.loop-i-test.true) c.read_triangle_at-r.ensures c.if-r-ne-DONE.true
+pub returns-in_err-read_triangle_at : goal.returns-in_err-read_triangle_at
+returns-in_err-read_triangle_at c =
+    let a = c.args in
+    let l = c.loop-i in
+    let p = err_from_is_err_and c.from_residual.result c.from_residual.ensures.1 in
+    rw (p.1, p.2) (breaks-off of_events _ _ l.invariant (triangles_next (coords_in a.lists.now) a.lists.now.ends.now a.tagged l.before l.i l.i c.loop-i-test.true) c.in_err-read_triangle_at.ensures)
 
 pub loop-i-preserved : goal.loop-i-preserved
-loop-i-preserved c = let a = c.args in let l = c.loop-i in (search rules, search rules, search rules, went_on (events a.feature) _ _ _ _ {L' = c.read_triangle_at-r.new.log} l.invariant.3 (triangles_next (coords_in a.seen a.xy.now a.z.now a.m.now a.t.now a.tm.now) a.ends.now l.before l.i l.i a.tagged c.loop-i-test.true) c.read_triangle_at-r.ensures c.if-r-ne-DONE.false)
+loop-i-preserved c =
+    let a = c.args in
+    let l = c.loop-i in
+    goes-on of_events _ _ l.invariant (triangles_next (coords_in a.lists.now) a.lists.now.ends.now a.tagged l.before l.i l.i c.loop-i-test.true) c.in_ok-read_triangle_at.ensures
 
 pub returns : goal.returns
-returns c = let a = c.args in let l = c.loop-i in ended (events a.feature) _ _ 0 l.invariant.3 (triangles_end (coords_in a.seen a.xy.now a.z.now a.m.now a.t.now a.tm.now) a.ends.now l.before l.i l.i a.tagged c.loop-i-test.false)
+returns c =
+    let a = c.args in
+    let l = c.loop-i in
+    ends of_events l.invariant (triangles_end (coords_in a.lists.now) a.lists.now.ends.now a.tagged l.before l.i l.i c.loop-i-test.false) (nothing of_events _)

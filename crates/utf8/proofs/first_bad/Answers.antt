@@ -14,25 +14,25 @@ loop-at-preserved-then-bytes-at-lt128 c =
     let at = c.loop-at.at in
     (omega arith, sym (bad_at_next s at 1 (ascii_at s at (omega arith) c.if-bytes-at-lt128.true) (λ none. omega (arith, none))) ∙ c.loop-at.invariant.1)
 
-pub returns-then-len-eq0 : goal.returns-then-len-eq0
-returns-then-len-eq0 c =
+pub returns-in-None : goal.returns-in-None
+returns-in-None c =
     let s = c.args.bytes.now in
     let at = c.loop-at.at in
-    let stops = bad_here (drop at s) (sym c.char_length-len.ensures ∙ c.if-len-eq0.true) in
+    let stops = bad_here (drop at s) c.in-None.ensures in
     bad_at s at (omega (arith, c.loop-at.invariant.1)) (omega arith)
 
-pub overflow_add-at-else-bytes-at-lt128 : goal.overflow_add-at-else-bytes-at-lt128
-overflow_add-at-else-bytes-at-lt128 c = omega (arith, c.char_length-len.ensures, char_at_within c.args.bytes.now c.loop-at.at)
+pub overflow_add-at-in-Some : goal.overflow_add-at-in-Some
+overflow_add-at-in-Some c = omega (arith, c.in-Some.ensures.0, char_at_within c.args.bytes.now c.loop-at.at)
 
 pub loop-at-smaller : goal.loop-at-smaller
-loop-at-smaller c = omega (arith, c.if-len-eq0.false, c.char_length-len.ensures, char_at_within c.args.bytes.now c.loop-at.at)
+loop-at-smaller c = omega (arith, c.in-Some.ensures.0, c.in-Some.ensures.1, char_at_within c.args.bytes.now c.loop-at.at)
 
 pub loop-at-preserved : goal.loop-at-preserved
 loop-at-preserved c =
     let s = c.args.bytes.now in
     let at = c.loop-at.at in
-    let char = c.char_length-len in
-    (omega (arith, char.ensures, char_at_within s at), sym (bad_at_next s at char.result char.ensures c.if-len-eq0.false) ∙ c.loop-at.invariant.1)
+    let char = c.in-Some.ensures in
+    (omega (arith, char.0, char_at_within s at), sym (bad_at_next s at c.in-Some.len char.0 (λ none. omega (arith, none, char.1))) ∙ c.loop-at.invariant.1)
 
 pub returns : goal.returns
 returns c =

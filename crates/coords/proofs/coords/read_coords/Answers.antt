@@ -1,26 +1,41 @@
-use borrow.Author.Rules.{rules}
-use native.Mathlib.Nat.{add-zero}
-use mathlib.Core.Path.{refl}
-use Rattle.laws.specs.Framed.{went_on, broke_off, ended}
-use Rattle.event_log.specs.Log.{events}
-use Rattle.coords.specs.Seen.{lanes_in}
-use Rattle.coords.specs.CoordLaws.{coords_end, coords_odd, coords_short, coords_whole}
+use Rattle.std.proofs.Common.{arith, ◌≡◌, ◌/◌, length}
+use Rattle.std.proofs.lemmas.Result.{err_from_is_err_and}
+use Rattle.kinds.specs.Refusal.{answer_of}
+use Rattle.event_log.specs.Says.{of_events}
+use Rattle.event_log.specs.SaysLaws.{refuses, goes-on, ends, breaks-off}
+use Rattle.coords.specs.Views.{coords_in}
+use Rattle.coords.specs.CoordLaws.{pairs_over, pairs_odd, pairs_short, pairs_next, answers}
 use Rattle.coords.proofs.coords.read_coords.Goals as goal
 
-pub loop-i-init : goal.loop-i-init
-loop-i-init c = (search rules, refl, search rules, refl, rw add-zero)
+pub returns-in_err-e : goal.returns-in_err-e
+returns-in_err-e c =
+    let a = c.args in
+    let C = coords_in a.lists.now in
+    let p = err_from_is_err_and c.from_residual.result c.from_residual.ensures.1 in
+    rw (p.1, p.2) (ends of_events c.loop-i.invariant (pairs_short C.many C.lanes a.w.words.now a.w.from (answer_of a.w.last) c.loop-i.i c.loop-i-test.true c.in_err-e.field-0.0 c.in_err-e.ensures) (refuses of_events _ _))
 
-pub returns-then-xy-i-lt2 : goal.returns-then-xy-i-lt2
-returns-then-xy-i-lt2 c = let s = c.args in let l = c.loop-i in ended (events s.feature) _ _ 7 l.invariant.4 (coords_odd s.seen.many _ s.xy.now l.i l.n s.last c.loop-i-test.true c.if-xy-i-lt2.true)
-
-pub returns-in_default : goal.returns-in_default
-returns-in_default c = let s = c.args in let l = c.loop-i in ended (events s.feature) _ _ 7 l.invariant.4 (coords_short s.seen.many (lanes_in s.seen s.z.now s.m.now s.t.now s.tm.now) s.xy.now s.from l.i l.n s.last c.if-xy-i-lt2.false c.read_pair-pair.ensures c.in_default.is)
-
-pub returns-then-r-ne-DONE : goal.returns-then-r-ne-DONE
-returns-then-r-ne-DONE c = let s = c.args in let l = c.loop-i in broke_off (events s.feature) _ _ _ _ l.invariant.4 (coords_whole s.seen.many (lanes_in s.seen s.z.now s.m.now s.t.now s.tm.now) s.xy.now s.from l.i l.n s.last c.if-xy-i-lt2.false c.read_pair-pair.ensures c.in-Whole.is) c.say-r.ensures c.if-r-ne-DONE.true
+pub returns-in_err-say : goal.returns-in_err-say
+returns-in_err-say c =
+    let a = c.args in
+    let C = coords_in a.lists.now in
+    let p = err_from_is_err_and c.from_residual-in_err-say.result c.from_residual-in_err-say.ensures.1 in
+    rw (p.1, p.2) (breaks-off of_events _ _ c.loop-i.invariant (pairs_next C.many C.lanes a.w.words.now a.w.from (answer_of a.w.last) c.loop-i.i c.loop-i-test.true c.in_ok-e.e c.in_ok-e.ensures) c.in_err-say.ensures)
 
 pub loop-i-preserved : goal.loop-i-preserved
-loop-i-preserved c = let s = c.args in let l = c.loop-i in (search rules, search rules, search rules, search rules, went_on (events s.feature) _ _ _ _ l.invariant.4 (coords_whole s.seen.many (lanes_in s.seen s.z.now s.m.now s.t.now s.tm.now) s.xy.now s.from l.i l.n s.last c.if-xy-i-lt2.false c.read_pair-pair.ensures c.in-Whole.is) c.say-r.ensures c.if-r-ne-DONE.false)
+loop-i-preserved c =
+    let a = c.args in
+    let C = coords_in a.lists.now in
+    goes-on of_events _ _ c.loop-i.invariant (pairs_next C.many C.lanes a.w.words.now a.w.from (answer_of a.w.last) c.loop-i.i c.loop-i-test.true c.in_ok-e.e c.in_ok-e.ensures) c.in_ok-say.ensures
+
+pub returns-then-words-ne0 : goal.returns-then-words-ne0
+returns-then-words-ne0 c =
+    let a = c.args in
+    let C = coords_in a.lists.now in
+    let k : c.loop-i.i ≡ length a.w.words.now / 2 = omega arith in
+    ends of_events c.loop-i.invariant (pairs_odd C.many C.lanes a.w.words.now a.w.from (answer_of a.w.last) c.loop-i.i k c.if-words-ne0.true) (refuses of_events _ _)
 
 pub returns : goal.returns
-returns c = let s = c.args in let l = c.loop-i in ended (events s.feature) _ _ _ l.invariant.4 (coords_end s.seen.many _ s.xy.now l.i l.n s.last c.loop-i-test.false)
+returns c =
+    let a = c.args in
+    let C = coords_in a.lists.now in
+    ends of_events c.loop-i.invariant (pairs_over C.many C.lanes a.w.words.now a.w.from (answer_of a.w.last) c.loop-i.i (omega arith) c.if-words-ne0.false) (answers of_events a.w.last _)

@@ -1,15 +1,17 @@
-use Rattle.laws.specs.Framed.{no_begin, no_body, to_end}
-use Rattle.event_log.specs.Log.{events}
+use Rattle.std.proofs.lemmas.Result.{err_from_is_err_and}
+use Rattle.event_log.specs.Says.{of_events}
+use Rattle.event_log.specs.SaysLaws.{no_begin, no_body, whole_frame}
 use Rattle.coords.proofs.coords.read_window.Goals as goal
 
-pub returns-then-b-ne-DONE : goal.returns-then-b-ne-DONE
-returns-then-b-ne-DONE c = let a = c.args in no_begin (events a.feature) _ _ _ _ c.begin.ensures c.say-b.ensures c.if-b-ne-DONE.true
+pub returns-in_err-say : goal.returns-in_err-say
+returns-in_err-say c =
+    let p = err_from_is_err_and c.from_residual.result c.from_residual.ensures.1 in
+    rw (p.1, p.2) (no_begin of_events _ _ c.begin.ensures c.in_err-say.ensures)
 
-pub returns-then-r-ne-DONE : goal.returns-then-r-ne-DONE
-returns-then-r-ne-DONE c = let a = c.args in no_body (events a.feature) _ _ _ _ c.begin.ensures c.say-b.ensures c.if-b-ne-DONE.false c.read_coords-r.ensures c.if-r-ne-DONE.true
-
-pub end-requires : goal.end-requires
-end-requires c = c.requires.4
+pub returns-in_err-read_coords : goal.returns-in_err-read_coords
+returns-in_err-read_coords c =
+    let p = err_from_is_err_and c.from_residual-in_err-read_coords.result c.from_residual-in_err-read_coords.ensures.1 in
+    rw (p.1, p.2) (no_body of_events _ c.begin.ensures c.in_ok-say.ensures c.in_err-read_coords.ensures)
 
 pub returns : goal.returns
-returns c = let a = c.args in to_end (events a.feature) _ _ _ _ c.begin.ensures c.say-b.ensures c.if-b-ne-DONE.false c.read_coords-r.ensures c.if-r-ne-DONE.false c.end.ensures c.say.ensures
+returns c = whole_frame of_events c.begin.ensures c.in_ok-say.ensures c.in_ok-read_coords.ensures c.end.ensures c.say-2.ensures

@@ -1,19 +1,16 @@
-use mathlib.Core.Bool.{not}
-use mathlib.Core.Path.{ap}
-use Rattle.coords.specs.CoordLaws.{windowed_absent, windowed_in, windowed_cut, windowed_past, windowed_empty}
+use Rattle.std.proofs.Common.{ap, sym, ◌∙◌}
+use Rattle.kinds.specs.Refusal.{answer_of}
+use Rattle.coords.specs.Views.{coords_in}
+use Rattle.coords.specs.CoordLaws.{window_none, window_some}
+use Rattle.coords.proofs.window.between.Goals.{then-cut, else-cut}
 use Rattle.coords.proofs.window.between.Goals as goal
 
-pub returns-then-not-there : goal.returns-then-not-there
-returns-then-not-there c = windowed_absent _ _ _ _ (ap not c.if-not-there.true)
-
-pub returns-then-end-words : goal.returns-then-end-words
-returns-then-end-words c = windowed_in _ _ _ _ (ap not c.if-not-there.false) c.requires.0 c.if-end-words.true
-
-pub returns-then-start-words : goal.returns-then-start-words
-returns-then-start-words c = windowed_cut _ _ _ _ (ap not c.if-not-there.false) c.if-end-words.false c.if-start-words.true
-
-pub returns-then-start-end : goal.returns-then-start-end
-returns-then-start-end c = windowed_past _ _ _ _ (ap not c.if-not-there.false) c.if-end-words.false c.if-start-words.false c.if-start-end.true
+pub returns-in_default : goal.returns-in_default
+returns-in_default c = let a = c.args in let C = coords_in a.lists.now in window_none C.many C.lanes a.from a.to c.in_default.is
 
 pub returns : goal.returns
-returns c = windowed_empty _ _ _ _ (ap not c.if-not-there.false) c.if-start-words.false c.if-start-end.false
+returns c =
+    let a = c.args in
+    let C = coords_in a.lists.now in
+    window_some C.many C.lanes a.from a.to c.if-cut.result c.in-Some.is c.requires.0 c.min-start.ensures c.min-end.ensures
+    (elim c.if-cut.branch [ then-cut w ↦ ap answer_of w.result-is ∙ sym (rw w.if-cut.true) | else-cut w ↦ ap answer_of w.result-is ∙ sym (rw w.if-cut.false) ])

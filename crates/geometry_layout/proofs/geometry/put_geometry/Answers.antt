@@ -25,12 +25,12 @@ returns c =
     (then l z (span_bytes g.m) 0 28
     (then l ends (span_bytes g.z) 0 20
     (then l xy (span_bytes g.ends) 0 12
-    (then l head (span_bytes g.xy) 0 4 (rw c.present_of.ensures at c.put_head.ensures) refl c.put_span.ensures)
-    refl c.put_span-2.ensures)
-    refl c.put_span-3.ensures)
-    refl c.put_span-4.ensures)
-    refl c.put_span-5.ensures)
-    refl c.put_span-6.ensures)
-    refl c.put_span-7.ensures)
+    (then l head (span_bytes g.xy) 0 4 (rw c.present_of.ensures at c.put_head.ensures) refl c.put_list.ensures)
+    refl c.put_list-2.ensures)
+    refl c.put_list-3.ensures)
+    refl c.put_list-4.ensures)
+    refl c.put_list-5.ensures)
+    refl c.put_list-6.ensures)
+    refl c.put_list-7.ensures)
     refl c.put_u32.ensures
     ∙ sets_whole l (parts ++ le 4 0) c.requires

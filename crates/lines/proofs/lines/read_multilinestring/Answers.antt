@@ -1,11 +1,10 @@
-use mathlib.Core.Path.{refl}
-use Rattle.event_log.specs.Log.{events}
-use Rattle.laws.specs.Framed.{ended}
-use Rattle.lines.specs.LineLaws.{multi-nothing, multi-some}
+use Rattle.event_log.specs.Says.{of_events}
+use Rattle.event_log.specs.SaysLaws.{nothing}
+use Rattle.lines.specs.LineLaws.{multi_nothing, multi_some}
 use Rattle.lines.proofs.lines.read_multilinestring.Goals as goal
 
 pub returns-then-nothing_there : goal.returns-then-nothing_there
-returns-then-nothing_there c = let a = c.args in ended (events a.feature) _ _ 0 refl (multi-nothing a.seen a.xy.now a.z.now a.m.now a.t.now a.tm.now a.ends.now a.idx c.nothing_there.ensures c.if-nothing_there.true)
+returns-then-nothing_there c = let a = c.args in rw (multi_nothing a.lists.now c.nothing_there.ensures a.idx c.if-nothing_there.true) (nothing of_events _)
 
 pub returns : goal.returns
-returns c = let a = c.args in rw (multi-some a.seen a.xy.now a.z.now a.m.now a.t.now a.tm.now a.ends.now a.idx c.nothing_there.ensures c.if-nothing_there.false) c.read_stretches.ensures
+returns c = let a = c.args in rw (multi_some a.lists.now c.nothing_there.ensures a.idx c.if-nothing_there.false) c.read_stretches.ensures

@@ -1,19 +1,28 @@
-use Rattle.laws.specs.Framed.{no_begin, no_body, to_end}
-use Rattle.event_log.specs.Log.{events}
-use mathlib.Core.Path.{ap, ◌∙◌}
-use Prim.Native.Nat.{ℕ}
+use Rattle.std.proofs.Common.{ap, ◌∙◌, ℕ}
+use Rattle.std.proofs.lemmas.Result.{err_from_is_err_and}
 use Rattle.kinds.specs.Event.{begin_e}
+use Rattle.kinds.specs.GeometryType.{number}
+use Rattle.event_log.specs.Says.{of_events}
+use Rattle.event_log.specs.SaysLaws.{no_begin, no_body, whole_frame}
 use Rattle.lines.specs.Lines.{stretches_s}
 use Rattle.lines.proofs.lines.read_stretches.Goals as goal
 
-pub returns-then-b-ne-DONE : goal.returns-then-b-ne-DONE
-returns-then-b-ne-DONE c = unfold stretches_s in let a = c.args in no_begin (events a.feature) _ _ _ _ (c.begin.ensures ∙ ap (λ (k : ℕ). begin_e a.kind a.tagged k a.idx) c.stretches-size.ensures) c.say-b.ensures c.if-b-ne-DONE.true
+pub returns-in_err-say : goal.returns-in_err-say
+unfolding stretches_s
+returns-in_err-say c =
+    let h = c.args.head in
+    let p = err_from_is_err_and c.from_residual.result c.from_residual.ensures.1 in
+    rw (p.1, p.2) (no_begin of_events _ _ (c.begin.ensures ∙ ap (λ (k : ℕ). begin_e (number h.kind) h.tagged k h.idx) c.stretches.ensures) c.in_err-say.ensures)
 
-pub returns-then-r-ne-DONE : goal.returns-then-r-ne-DONE
-returns-then-r-ne-DONE c = unfold stretches_s in let a = c.args in no_body (events a.feature) _ _ _ _ (c.begin.ensures ∙ ap (λ (k : ℕ). begin_e a.kind a.tagged k a.idx) c.stretches-size.ensures) c.say-b.ensures c.if-b-ne-DONE.false c.read_rings-r.ensures c.if-r-ne-DONE.true
-
-pub end-requires : goal.end-requires
-end-requires c = c.requires.2
+pub returns-in_err-read_rings : goal.returns-in_err-read_rings
+unfolding stretches_s
+returns-in_err-read_rings c =
+    let h = c.args.head in
+    let p = err_from_is_err_and c.from_residual-in_err-read_rings.result c.from_residual-in_err-read_rings.ensures.1 in
+    rw (p.1, p.2) (no_body of_events _ (c.begin.ensures ∙ ap (λ (k : ℕ). begin_e (number h.kind) h.tagged k h.idx) c.stretches.ensures) c.in_ok-say.ensures c.in_err-read_rings.ensures)
 
 pub returns : goal.returns
-returns c = unfold stretches_s in let a = c.args in to_end (events a.feature) _ _ _ _ (c.begin.ensures ∙ ap (λ (k : ℕ). begin_e a.kind a.tagged k a.idx) c.stretches-size.ensures) c.say-b.ensures c.if-b-ne-DONE.false c.read_rings-r.ensures c.if-r-ne-DONE.false c.end.ensures c.say.ensures
+unfolding stretches_s
+returns c =
+    let h = c.args.head in
+    whole_frame of_events (c.begin.ensures ∙ ap (λ (k : ℕ). begin_e (number h.kind) h.tagged k h.idx) c.stretches.ensures) c.in_ok-say.ensures c.in_ok-read_rings.ensures c.end.ensures c.say-2.ensures

@@ -1,26 +1,35 @@
-use Rattle.coords.specs.Seen.{coords_in}
-use Rattle.lines.specs.LineLaws.{point-is}
-use Rattle.own_lists.specs.OwnLaws.{own-point, own_line, own-polygon, own-lines, own_tin, own_triangle, typed-line}
-use mathlib.Core.Path.{◌∙◌}
+use Rattle.lines.specs.Lines.{point_s}
+use Rattle.own_lists.specs.Own.{own_s}
 use Rattle.own_lists.proofs.own.read_lists.Goals as goal
 
-pub read_line-requires : goal.read_line-requires
-read_line-requires c = let a = c.args in (c.requires.0, typed-line a.own c.in-Line.is c.requires.2)
-
 pub returns-in-Point : goal.returns-in-Point
-returns-in-Point c = let a = c.args in rw (own-point (coords_in a.seen a.xy.now a.z.now a.m.now a.t.now a.tm.now) a.ends.now a.idx c.in-Point.is ∙ point-is a.seen a.xy.now a.z.now a.m.now a.t.now a.tm.now a.idx c.between-w.result c.between-w.ensures) c.read_window.ensures
+unfolding own_s point_s
+returns-in-Point c = rw (c.in-Point.is, c.between.ensures) c.read_window.ensures
 
-pub returns-in-Line : goal.returns-in-Line
-returns-in-Line c = let a = c.args in rw (own_line (coords_in a.seen a.xy.now a.z.now a.m.now a.t.now a.tm.now) a.ends.now a.idx c.in-Line.is) c.read_line.ensures
+pub returns-in-LineString : goal.returns-in-LineString
+unfolding own_s
+returns-in-LineString c = rw c.in-LineString.is c.read_line.ensures
+
+pub returns-in-MultiPoint : goal.returns-in-MultiPoint
+unfolding own_s
+returns-in-MultiPoint c = rw c.in-MultiPoint.is c.read_line-in-MultiPoint.ensures
+
+pub returns-in-CircularString : goal.returns-in-CircularString
+unfolding own_s
+returns-in-CircularString c = rw c.in-CircularString.is c.read_line-in-CircularString.ensures
 
 pub returns-in-Polygon : goal.returns-in-Polygon
-returns-in-Polygon c = let a = c.args in rw (own-polygon (coords_in a.seen a.xy.now a.z.now a.m.now a.t.now a.tm.now) a.ends.now a.idx c.in-Polygon.is) c.read_stretches.ensures
+unfolding own_s
+returns-in-Polygon c = rw c.in-Polygon.is c.read_stretches.ensures
 
 pub returns-in-MultiLineString : goal.returns-in-MultiLineString
-returns-in-MultiLineString c = let a = c.args in rw (own-lines (coords_in a.seen a.xy.now a.z.now a.m.now a.t.now a.tm.now) a.ends.now a.idx c.in-MultiLineString.is) c.read_multilinestring.ensures
+unfolding own_s
+returns-in-MultiLineString c = rw c.in-MultiLineString.is c.read_multilinestring.ensures
 
 pub returns-in-Tin : goal.returns-in-Tin
-returns-in-Tin c = let a = c.args in rw (own_tin (coords_in a.seen a.xy.now a.z.now a.m.now a.t.now a.tm.now) a.ends.now a.idx c.in-Tin.is) c.read_tin.ensures
+unfolding own_s
+returns-in-Tin c = rw c.in-Tin.is c.read_tin.ensures
 
 pub returns-in-Triangle : goal.returns-in-Triangle
-returns-in-Triangle c = let a = c.args in rw (own_triangle (coords_in a.seen a.xy.now a.z.now a.m.now a.t.now a.tm.now) a.ends.now a.idx c.in-Triangle.is) c.read_triangle.ensures
+unfolding own_s
+returns-in-Triangle c = rw c.in-Triangle.is c.read_triangle.ensures

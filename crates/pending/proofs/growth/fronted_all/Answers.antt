@@ -1,4 +1,8 @@
+use Rattle.std.proofs.Common.{rules}
+use Rattle.kinds.specs.LaneLaws.{lanes_are}
+use Rattle.pending.specs.Words.{words_in}
+use Rattle.pending.specs.Growth.{fronted}
 use Rattle.pending.proofs.growth.fronted_all.Goals as goal
 
 pub returns : goal.returns
-returns c = λ i. record { xy = c.fronted-xy.ensures i; ends = c.fronted-ends.ensures i; z = c.fronted-z.ensures i; m = c.fronted-m.ensures i; t = c.fronted-t.ensures i; tm = c.fronted-tm.ensures i }
+returns c = lanes_are c.map.result (λ n. fronted (words_in c.args.p n)) (λ n. search (rules, c.map.ensures n))

@@ -1,25 +1,11 @@
-use native.Mathlib.Omega.{arith}
-use Rattle.kinds.specs.Lanes.{xyL, endsL, zL, mL, tL, tmL}
-use Rattle.pending.specs.Growth.{grown_all}
+use Rattle.std.proofs.Common.{rules, arith}
+use Rattle.kinds.specs.LaneLaws.{lanes_are, usable_most}
+use Rattle.pending.specs.Words.{words_in}
+use Rattle.pending.specs.Growth.{grown, more, grown_all}
 use Rattle.pending.proofs.growth.grown_all.Goals as goal
 
-pub grown-xy-requires : goal.grown-xy-requires
-grown-xy-requires c = record { fits = omega (arith, c.requires xyL); few = omega arith }
-
-pub grown-ends-requires : goal.grown-ends-requires
-grown-ends-requires c = record { fits = omega (arith, c.requires endsL); few = omega arith }
-
-pub grown-z-requires : goal.grown-z-requires
-grown-z-requires c = record { fits = omega (arith, c.requires zL); few = omega arith }
-
-pub grown-m-requires : goal.grown-m-requires
-grown-m-requires c = record { fits = omega (arith, c.requires mL); few = omega arith }
-
-pub grown-t-requires : goal.grown-t-requires
-grown-t-requires c = record { fits = omega (arith, c.requires tL); few = omega arith }
-
-pub grown-tm-requires : goal.grown-tm-requires
-grown-tm-requires c = record { fits = omega (arith, c.requires tmL); few = omega arith }
+pub zip_with-requires : goal.zip_with-requires
+zip_with-requires c = λ n κs at fits ranges u. rw (c.counts.ensures n) (omega (arith, c.requires n, usable_most n))
 
 pub returns : goal.returns
-returns c = unfold grown_all in λ i. record { xy = c.grown-xy.ensures i; ends = c.grown-ends.ensures i; z = c.grown-z.ensures i; m = c.grown-m.ensures i; t = c.grown-t.ensures i; tm = c.grown-tm.ensures i }
+returns c = unfold grown_all in lanes_are c.zip_with.result (λ n. grown (words_in c.args.p n) (more c.args.a n)) (λ n. search (rules, c.zip_with.ensures n, c.counts.ensures n))

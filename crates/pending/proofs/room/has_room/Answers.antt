@@ -1,5 +1,8 @@
-use Rattle.pending.specs.Room.{has_room}
+use Rattle.std.proofs.Common.{rules}
+use Rattle.pending.specs.Room.{has_room_is}
 use Rattle.pending.proofs.room.has_room.Goals as goal
 
 pub returns : goal.returns
-returns c = unfold has_room in rw (c.room_in.ensures, c.lane_room.ensures, c.lane_room-2.ensures, c.lane_room-3.ensures, c.lane_room-4.ensures, c.lane_room-5.ensures, c.lane_room-6.ensures)
+returns c =
+    rw (c.room_in.ensures, c.within.ensures, c.within-2.ensures)
+    (has_room_is c.args.p c.args.a c.args.needed c.args.records c.args.pools c.zip_with-ends.result (λ n. search (rules, c.zip_with-ends.ensures n, c.counts.ensures n)))

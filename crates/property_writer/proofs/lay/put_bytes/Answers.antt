@@ -1,14 +1,13 @@
-use mathlib.Core.Path.{◌≡◌, refl}
-use Prim.Native.Nat.{suc, ◌+◌}
+use mathlib.Core.Path.{◌≡◌}
+use Prim.Native.Nat.{suc, ◌+◌, ◌≤◌}
 use native.Mathlib.Nat.{add-zero}
 use native.Mathlib.Omega.{arith}
-use lib.ListN.{length-set, drop_of_length-le}
+use lib.ListN.{length, drop_of_length-le}
 use lib.Seq.{drop-cons}
-use borrow.Author.Rules.{rules}
 use Rattle.property_writer.proofs.lay.put_bytes.Goals as goal
 
 pub loop-i-init : goal.loop-i-init
-loop-i-init c = (refl, search rules, rw add-zero)
+loop-i-init c = rw add-zero
 
 pub loop-i-preserved : goal.loop-i-preserved
 loop-i-preserved c =
@@ -16,10 +15,9 @@ loop-i-preserved c =
     let i = c.loop-i.i in
     let next : a.at + (i + 1) ≡ suc (a.at + i) = omega arith in
     let more : i + 1 ≡ suc i = omega arith in
-    (simp length-set (search rules), search rules, rw (next, more) (rw (drop-cons a.bytes.now i 0 (omega arith)) at c.loop-i.invariant.2))
-
-pub shape_of-s : goal.shape_of-s
-shape_of-s c = c.loop-i.invariant.0
+    rw (next, more) (rw (drop-cons a.bytes.now i 0 (omega arith)) at c.loop-i.invariant)
 
 pub returns : goal.returns
-returns c = rw (drop_of_length-le c.args.bytes.now c.loop-i-test.false) at c.loop-i.invariant.2
+returns c =
+    let done : length c.args.bytes.now ≤ c.loop-i.i = omega arith in
+    rw (drop_of_length-le c.args.bytes.now done) at c.loop-i.invariant

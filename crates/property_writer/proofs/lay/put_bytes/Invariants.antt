@@ -1,12 +1,9 @@
 use mathlib.Core.Path.{◌≡◌}
-use Prim.Native.Nat.{◌+◌, ◌-◌, ◌≤◌}
-use lib.ListN.{length, drop}
+use Prim.Native.Nat.{◌+◌}
+use lib.ListN.{drop}
 use lib.Seq.{sets}
 use Rattle.property_writer.proofs.lay.put_bytes.Given as goal
 
 -- what is left to copy, laid down behind what is copied, is the whole
 abbrev pub invariant-loop-i : goal.invariant-loop-i
-invariant-loop-i l = (length l.s ≡ length l.initial.s) × (l.i ≤ length l.bytes) × (sets l.s (l.at + l.i) (drop l.i l.bytes) ≡ sets l.initial.s l.at l.bytes)
-
-abbrev pub decreases-loop-i : goal.decreases-loop-i
-decreases-loop-i l = length l.bytes - l.i
+invariant-loop-i l = sets l.s (l.at + l.i) (drop l.i l.bytes) ≡ sets l.initial.s l.at l.bytes

@@ -1,25 +1,23 @@
+use mathlib.Core.Path.{◌≡◌, sym, subst, ◌∙◌}
+use Prim.Native.Nat.{ℕ, ◌+◌, ◌*◌}
+use borrow.Author.Tests.{eqb-true}
 use native.Mathlib.Omega.{arith}
+use Rattle.wkb_judge.specs.Passing.{malformed, faulty}
 use Rattle.wkb_judge.specs.Rows.{tail_none}
-use Rattle.wkb_judge.specs.Rising.{pass_as, none_nested}
+use Rattle.wkb_judge.specs.Rising.{Rising, first-passed, one-passed, none_nested}
 use Rattle.wkb_judge.proofs.judge.judge_all.Goals as goal
 
-pub returns-then-tail-ne0 : goal.returns-then-tail-ne0
-returns-then-tail-ne0 c = tail_none c.args.events.now c.if-tail-ne0.true
+pub returns-then-events-ne0 : goal.returns-then-events-ne0
+returns-then-events-ne0 c = malformed (tail_none c.args.events.now c.if-events-ne0.true)
 
-pub returns-then-events-eq0 : goal.returns-then-events-eq0
-returns-then-events-eq0 c = none_nested c.args.events.now c.if-events-eq0.true
+pub returns-then-is_empty : goal.returns-then-is_empty
+returns-then-is_empty c = faulty (none_nested c.args.events.now (eqb-true _ 0 (sym c.is_empty.ensures ∙ c.if-is_empty.true)))
 
-pub judge-first-requires : goal.judge-first-requires
-judge-first-requires c = (omega (arith, c.if-events-eq0.false), c.if-tail-ne0.false)
+pub loop-window-init : goal.loop-window-init
+loop-window-init c = first-passed c.in_ok-first.ensures
 
-pub judge_higher-requires : goal.judge_higher-requires
-judge_higher-requires c = (omega (arith, c.if-events-eq0.false), c.if-tail-ne0.false, pass_as c.args.events.now 0 c.judge-first.result _ c.judge-first.ensures c.in-Sound.is)
-
-pub returns-in-Malformed : goal.returns-in-Malformed
-returns-in-Malformed c = pass_as c.args.events.now 0 c.judge-first.result _ c.judge-first.ensures c.in-Malformed.is
-
-pub returns-in-Fault : goal.returns-in-Fault
-returns-in-Fault c = pass_as c.args.events.now 0 c.judge-first.result _ c.judge-first.ensures c.in-Fault.is
-
-pub returns-in-Sound : goal.returns-in-Sound
-returns-in-Sound c = c.judge_higher.ensures
+pub loop-window-preserved : goal.loop-window-preserved
+loop-window-preserved c =
+    let f = c.in_ok-first.first in
+    let next : 256 * c.loop-window.window + 256 ≡ 256 * (c.loop-window.window + 1) = omega arith in
+    subst (λ (low : ℕ). Rising c.args.events.now low f.highest f.deep f.length) next (one-passed c.loop-window.invariant c.in_ok-judge.ensures)

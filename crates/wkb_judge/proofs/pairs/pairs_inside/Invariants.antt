@@ -1,10 +1,5 @@
-use mathlib.Core.Path.{◌≡◌}
-use Prim.Native.Nat.{◌+◌, ◌-◌, ◌≤◌}
 use Rattle.wkb_judge.specs.Inside.{PairsFrom}
 use Rattle.wkb_judge.proofs.pairs.pairs_inside.Given as goal
 
 abbrev pub invariant-loop-idx : goal.invariant-loop-idx
-invariant-loop-idx l = PairsFrom l.events l.from l.feature l.idx × (l.next ≡ l.from + l.idx) × (l.idx ≤ l.last)
-
-abbrev pub decreases-loop-idx : goal.decreases-loop-idx
-decreases-loop-idx l = l.last - l.idx
+invariant-loop-idx l = PairsFrom l.events l.from l.feature l.idx

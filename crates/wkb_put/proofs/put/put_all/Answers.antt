@@ -1,41 +1,45 @@
-use mathlib.Core.Path.{refl, ◌∙◌}
+use mathlib.Core.Path.{refl, ap, ◌∙◌}
+use lib.ListN.{length}
 use Prim.Native.Nat.{◌+◌}
 use native.Mathlib.Omega.{arith}
-use Rattle.wkb_put.specs.Put.{around_of}
-use Rattle.wkb_put.specs.PutLeft.{Left, began, ended, event-room, event_on, pairs-room, pairs_on_lem}
+use borrow.Author.Rules.{rules}
+use Rattle.wkb_put.specs.PutLeft.{Left, began, ended, event-room, event_on, pairs-room, pairs_on}
 use Rattle.wkb_put.proofs.put.put_all.Goals as goal
 
 pub loop-next-init : goal.loop-next-init
-loop-next-init c = let a = c.args in (refl, began a.events.now a.out.now c.requires.0)
+loop-next-init c = record { memory = refl; left = began c.requires.0 refl c.new-output.ensures.at }
 
-pub put_event-at-requires : goal.put_event-at-requires
-put_event-at-requires c = let a = c.args in let l = c.loop-next in omega (arith, event-room a.events.now a.out.now (around_of l.around) l.out l.next l.at c.event_at-e.result c.loop-next-test.true l.invariant.1 c.event_at-e.ensures, c.requires.1, l.invariant.0)
+pub put_event-around-requires : goal.put_event-around-requires
+put_event-around-requires c =
+    let r = c.loop-next.invariant.left in
+    omega (arith, event-room c.loop-next-test.true r c.event_at-e.ensures, c.requires.1, r.long, ap length c.new-output.ensures.bytes)
 
 pub loop-next-preserved-then-around : goal.loop-next-preserved-then-around
 loop-next-preserved-then-around c =
-    let a = c.args in
     let l = c.loop-next in
-    let put = c.put_event-at in
-    (put.auto.out ∙ l.invariant.0, event_on a.events.now a.out.now (around_of l.around) l.out l.next l.at c.event_at-e.result c.loop-next-test.true l.invariant.1 c.event_at-e.ensures c.later_than-around.ensures put.ensures.0 put.ensures.1)
+    let put = c.put_event-around in
+    record { memory = put.ensures.laid.memory ∙ l.invariant.memory; left = event_on c.loop-next-test.true l.invariant.left c.event_at-e.ensures put.ensures.later put.ensures.laid }
 
-pub put_pairs-run-requires : goal.put_pairs-run-requires
-put_pairs-run-requires c =
-    let a = c.args in
+pub put_pairs-next-requires : goal.put_pairs-next-requires
+put_pairs-next-requires c =
     let l = c.loop-next in
-    let put = c.put_event-at in
-    let laid : Left a.events.now a.out.now (around_of c.later_than-around.result) put.new.out (l.next + 1) put.result = event_on a.events.now a.out.now (around_of l.around) l.out l.next l.at c.event_at-e.result c.loop-next-test.true l.invariant.1 c.event_at-e.ensures c.later_than-around.ensures put.ensures.0 put.ensures.1 in
-    (laid.heard, omega (arith, pairs-room a.events.now a.out.now (around_of c.later_than-around.result) put.new.out (l.next + 1) put.result c.if-around.false laid, c.requires.1, put.auto.out, l.invariant.0))
-
-pub loop-next-smaller : goal.loop-next-smaller
-loop-next-smaller c = omega (arith, c.put_pairs-run.ensures.past, c.loop-next-test.true)
+    let put = c.put_event-around in
+    let r : Left c.args.events.now c.new-output.result.bytes.now put.result put.new.output (l.next + 1) = event_on c.loop-next-test.true l.invariant.left c.event_at-e.ensures put.ensures.later put.ensures.laid in
+    (omega (arith, c.loop-next-test.true), r.heard, omega (arith, pairs-room c.if-around.false r, c.requires.1, r.long, ap length c.new-output.ensures.bytes))
 
 pub loop-next-preserved : goal.loop-next-preserved
 loop-next-preserved c =
-    let a = c.args in
     let l = c.loop-next in
-    let put = c.put_event-at in
-    let laid : Left a.events.now a.out.now (around_of c.later_than-around.result) put.new.out (l.next + 1) put.result = event_on a.events.now a.out.now (around_of l.around) l.out l.next l.at c.event_at-e.result c.loop-next-test.true l.invariant.1 c.event_at-e.ensures c.later_than-around.ensures put.ensures.0 put.ensures.1 in
-    (c.put_pairs-run.auto.out ∙ (put.auto.out ∙ l.invariant.0), pairs_on_lem a.events.now a.out.now (around_of c.later_than-around.result) put.new.out (l.next + 1) put.result c.if-around.false laid c.put_pairs-run.ensures)
+    let put = c.put_event-around in
+    let ran = c.put_pairs-next in
+    record {
+      memory = ran.ensures.laid.memory ∙ (put.ensures.laid.memory ∙ l.invariant.memory);
+      left = pairs_on c.if-around.false (event_on c.loop-next-test.true l.invariant.left c.event_at-e.ensures put.ensures.later put.ensures.laid) ran.ensures;
+    }
 
 pub returns : goal.returns
-returns c = let a = c.args in ended a.events.now a.out.now c.loop-next-test.false c.loop-next.invariant.1
+returns c =
+    let laid = ended c.loop-next-test.false c.loop-next.invariant.left in
+    let same = c.loop-next.invariant.memory ∙ c.new-output.ensures.memory in
+    let first = c.new-output.ensures.bytes in
+    search rules

@@ -1,56 +1,64 @@
-use Rattle.std.proofs.Common.{rules, refl, arith}
-use Rattle.std.proofs.Math.Nat.{sub-zero, pos_of_ne-zero}
-use Rattle.wkb_reader.specs.Reading.{several, geometry_r}
-use Rattle.wkb_reader.specs.Onward.{began, went_on, broke_off, ended_at}
-use Rattle.wkb_reader.specs.Parts.{grouped, grouped_off, geometry_refused, geometry_deep, geometry_collection, geometry_simple}
+use Rattle.std.proofs.Common.{false}
+use Rattle.std.proofs.Math.Nat.{sub-zero}
+use Rattle.std.proofs.lemmas.Result.{err_from_is_err_and}
+use Rattle.kinds.specs.Event.{end_e}
+use Rattle.wkb_reader.specs.Reading.{saying, geometry_r}
+use Rattle.wkb_reader.specs.Onward.{said_leads, went_on, broke_off, ended}
+use Rattle.wkb_reader.specs.GroupLaws.{no_count, no_begin, begun}
+use Rattle.wkb_reader.specs.KindLaws.{geometry_refused, geometry_deep, geometry_collection, geometry_simple}
 use Rattle.wkb_reader.proofs.geometry.+geometry.Goals as goal
 
-pub read_collection-loop-i-init : goal.read_collection-loop-i-init
-read_collection-loop-i-init t c =
+pub read_collection-returns-in_err-size : goal.read_collection-returns-in_err-size
+read_collection-returns-in_err-size t c =
     let a = c.args in
-    let b = c.read_begin-b in
-    (b.ensures.1, refl, refl, rw sub-zero (began a.feature a.bytes.now (several (geometry_r a.left) b.result.size 0) b.result.at b.new.log b.result.count))
+    let p = err_from_is_err_and c.from_residual.result c.from_residual.ensures.1 in
+    rw (p.1, p.2) (no_count a.order 7 false (geometry_r a.left) a.idx a.input.now c.u32.new.self a.log.now c.in_err-size.ensures)
 
-pub read_collection-read_geometry-r-requires : goal.read_collection-read_geometry-r-requires
-read_collection-read_geometry-r-requires t c = (omega (arith, c.decreases), c.loop-i.invariant.0)
-
-pub read_collection-returns-then-r-ne-DONE : goal.read_collection-returns-then-r-ne-DONE
-read_collection-returns-then-r-ne-DONE t c =
+pub read_collection-returns-in_err-say : goal.read_collection-returns-in_err-say
+read_collection-returns-in_err-say t c =
     let a = c.args in
-    let r = c.read_geometry-r in
-    (grouped_off (geometry_r a.left) c.read_begin-b.ensures.0 c.if-b-ne-DONE.false (broke_off a.feature a.bytes.now (geometry_r a.left) _ c.loop-i-test.true c.loop-i.invariant.3 r.ensures.0 c.if-r-ne-DONE.true) c.if-r-ne-DONE.true, r.ensures.1)
+    let p = err_from_is_err_and c.from_residual-in_err-say.result c.from_residual-in_err-say.ensures.1 in
+    rw (p.1, p.2) (no_begin a.order 7 false (geometry_r a.left) a.idx a.input.now c.u32.new.self c.in_ok-size.ensures c.begin.ensures c.in_err-say.ensures)
 
-pub read_collection-loop-i-preserved : goal.read_collection-loop-i-preserved
-read_collection-loop-i-preserved t c =
+pub read_collection-loop-member-init : goal.read_collection-loop-member-init
+read_collection-loop-member-init t c =
     let a = c.args in
-    let r = c.read_geometry-r in
-    (r.ensures.1, search rules, c.if-r-ne-DONE.false, went_on a.feature a.bytes.now (geometry_r a.left) c.loop-i-test.true c.loop-i.invariant.3 r.ensures.0 c.if-r-ne-DONE.false)
+    rw sub-zero (begun a.order 7 false (geometry_r a.left) a.idx a.input.now c.u32.new.self c.in_ok-size.ensures c.begin.ensures c.in_ok-say.ensures)
+
+pub read_collection-returns-in_err-read_geometry : goal.read_collection-returns-in_err-read_geometry
+read_collection-returns-in_err-read_geometry t c =
+    let a = c.args in
+    let p = err_from_is_err_and c.from_residual-in_err-read_geometry.result c.from_residual-in_err-read_geometry.ensures.1 in
+    rw (p.1, p.2) (broke_off (geometry_r a.left) (saying (end_e 7 false a.idx)) c.loop-member.invariant c.loop-member-test.true c.in_err-read_geometry.ensures)
+
+pub read_collection-loop-member-preserved : goal.read_collection-loop-member-preserved
+read_collection-loop-member-preserved t c =
+    let a = c.args in
+    went_on (geometry_r a.left) (saying (end_e 7 false a.idx)) c.loop-member.invariant c.loop-member-test.true c.in_ok-read_geometry.ensures
 
 pub read_collection-returns : goal.read_collection-returns
 read_collection-returns t c =
     let a = c.args in
-    let l = c.loop-i in
-    (grouped (geometry_r a.left) c.read_begin-b.ensures.0 c.if-b-ne-DONE.false (ended_at a.feature a.bytes.now (geometry_r a.left) c.loop-i-test.false l.invariant.2 l.invariant.3) c.say_end.ensures.0, omega (arith, c.say_end.ensures.1, l.invariant.0))
+    ended (geometry_r a.left) (saying (end_e 7 false a.idx)) c.loop-member.invariant c.loop-member-test.false
+    (said_leads (end_e 7 false a.idx) _ _ _ c.say-2.result (rw c.end.ensures at c.say-2.ensures))
+
+pub read_geometry-returns-in_err-head : goal.read_geometry-returns-in_err-head
+read_geometry-returns-in_err-head t c =
+    let a = c.args in
+    let p = err_from_is_err_and c.from_residual.result c.from_residual.ensures.1 in
+    rw (p.1, p.2) (geometry_refused a.idx a.input.now c.read_head.new.input a.left a.log.now c.in_err-head.ensures)
 
 pub read_geometry-returns-then-left-eq0 : goal.read_geometry-returns-then-left-eq0
 read_geometry-returns-then-left-eq0 t c =
     let a = c.args in
-    (geometry_deep a.feature a.bytes.now a.left a.idx a.at c.in-Geometry.ensures a.count a.log.now c.if-left-eq0.true, c.requires)
+    geometry_deep a.idx a.input.now c.read_head.new.input c.in_ok-head.ensures a.log.now c.if-left-eq0.true
 
-pub read_geometry-read_collection-requires : goal.read_geometry-read_collection-requires
-read_geometry-read_collection-requires t c = (omega (arith, c.decreases, pos_of_ne-zero c.if-left-eq0.false), c.in-Geometry.ensures.0)
-
-pub read_geometry-returns-then-kind-eq7 : goal.read_geometry-returns-then-kind-eq7
-read_geometry-returns-then-kind-eq7 t c =
+pub read_geometry-returns-then-head-eq-MOST : goal.read_geometry-returns-then-head-eq-MOST
+read_geometry-returns-then-head-eq-MOST t c =
     let a = c.args in
-    (geometry_collection a.feature a.bytes.now a.left a.idx a.at c.in-Geometry.ensures c.if-left-eq0.false c.if-kind-eq7.true c.read_collection.ensures.0, c.read_collection.ensures.1)
+    geometry_collection a.idx a.input.now c.read_head.new.input c.in_ok-head.ensures c.if-left-eq0.false c.if-head-eq-MOST.true c.read_collection.ensures
 
-pub read_geometry-returns-in-Refused : goal.read_geometry-returns-in-Refused
-read_geometry-returns-in-Refused t c =
+pub read_geometry-returns-else-head-eq-MOST : goal.read_geometry-returns-else-head-eq-MOST
+read_geometry-returns-else-head-eq-MOST t c =
     let a = c.args in
-    (geometry_refused a.feature a.bytes.now a.left a.idx a.at _ a.count a.log.now c.in-Refused.ensures, c.requires)
-
-pub read_geometry-returns-else-kind-eq7 : goal.read_geometry-returns-else-kind-eq7
-read_geometry-returns-else-kind-eq7 t c =
-    let a = c.args in
-    (geometry_simple a.feature a.bytes.now a.left a.idx a.at c.in-Geometry.ensures c.if-left-eq0.false c.if-kind-eq7.false c.read_simple.ensures.0, c.read_simple.ensures.1)
+    geometry_simple a.idx a.input.now c.read_head.new.input c.in_ok-head.ensures c.if-left-eq0.false c.if-head-eq-MOST.false c.read_simple.ensures

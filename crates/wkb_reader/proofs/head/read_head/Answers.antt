@@ -1,13 +1,25 @@
-use Rattle.wkb_reader.specs.Heads.{no_mark, bad_mark, marked-head}
-use mathlib.Core.Path.{refl}
-use native.Mathlib.Omega.{arith}
+use Rattle.std.proofs.lemmas.Result.{err_from_is_err_and}
+use Rattle.wkb_reader.specs.HeadLaws.{marked_by, mark_cut, bad_mark, head_cut, head_is}
 use Rattle.wkb_reader.proofs.head.read_head.Goals as goal
 
-pub returns-then-bytes-at : goal.returns-then-bytes-at
-returns-then-bytes-at c = let a = c.args in no_mark a.bytes.now a.at a.least a.most c.requires c.if-bytes-at.true
+pub returns-in_err-byte : goal.returns-in_err-byte
+returns-in_err-byte c =
+    let a = c.args in
+    let p = err_from_is_err_and c.from_residual.result c.from_residual.ensures.1 in
+    rw (p.1, p.2) (mark_cut a.least a.most a.input.now c.byte.new.self c.byte.new.self c.in_err-byte.ensures)
 
-pub returns-then-mark-gt1 : goal.returns-then-mark-gt1
-returns-then-mark-gt1 c = let a = c.args in bad_mark a.bytes.now a.at a.least a.most _ refl (omega (arith, c.if-bytes-at.false)) c.if-mark-gt1.true
+pub returns-in_default : goal.returns-in_default
+returns-in_default c = let a = c.args in bad_mark a.least a.most a.input.now c.byte.new.self c.in_ok-byte.ensures c.byte.new.self c.in_default.ensures
+
+pub returns-in_err-kind : goal.returns-in_err-kind
+returns-in_err-kind c =
+    let a = c.args in
+    let m = marked_by _ c.in-Some.ensures in
+    let p = err_from_is_err_and c.from_residual-in_err-kind.result c.from_residual-in_err-kind.ensures.1 in
+    rw (p.1, p.2) (head_cut a.least a.most a.input.now c.byte.new.self c.in_ok-byte.ensures m.0 m.1 c.read_type.new.input _ c.in_err-kind.ensures)
 
 pub returns : goal.returns
-returns c = let a = c.args in marked-head a.bytes.now a.at a.least a.most _ refl (omega (arith, c.if-bytes-at.false)) (omega (arith, c.if-mark-gt1.false)) c.read_type.result _ c.order_of.ensures c.read_type.ensures
+returns c =
+    let a = c.args in
+    let m = marked_by _ c.in-Some.ensures in
+    head_is a.least a.most a.input.now c.byte.new.self c.in_ok-byte.ensures m.0 m.1 c.read_type.new.input c.in_ok-kind.ensures

@@ -1,18 +1,14 @@
-use mathlib.Core.Path.{refl, sym, ap, ◌∙◌}
-use Rattle.laws.specs.Cond.{if_so, if_not}
-use Rattle.writing.specs.State.{wrote}
+use Rattle.std.proofs.Common.{rules, arith, ℕ, ◌≡◌, refl, sym, ◌∙◌, Bool, true, false, cond}
+use Rattle.kinds.specs.Refusal.{answer_of}
 use Rattle.pending.specs.Room.{room_of_lem}
-use Rattle.writing.specs.Calls.{decide_finish}
 use Rattle.writing.proofs.decide.decide_finish.Goals as goal
 
-pub returns-then-s : goal.returns-then-s
-returns-then-s c = unfold decide_finish in if_so _ c.if-s.true refl
+had_room : (turn room : Bool) → ◌≡◌ {A = ℕ} (cond turn (cond room 0 12) 15) 0 → room ≡ true
+had_room true true h = refl
+had_room true false h = absurd (omega (arith, h))
+had_room false room h = absurd (omega (arith, h))
 
-pub finished-state-requires : goal.finished-state-requires
-finished-state-requires c = (room_of_lem _ _ _ _ _ (sym c.has_room.ensures ∙ c.if-has_room.true)).fits
-
-pub returns-then-has_room : goal.returns-then-has_room
-returns-then-has_room c = unfold decide_finish in if_not _ c.if-s.false (if_so _ (sym c.has_room.ensures ∙ c.if-has_room.true) (ap (wrote 0) c.finished-state.ensures))
-
-pub returns-else-has_room : goal.returns-else-has_room
-returns-else-has_room c = unfold decide_finish in if_not _ c.if-s.false (if_not _ (sym c.has_room.ensures ∙ c.if-has_room.false) refl)
+pub finished-requires : goal.finished-requires
+finished-requires c =
+    let fits : answer_of c.root_fits.result ≡ 0 = search rules in
+    (room_of_lem _ _ _ _ _ (had_room _ _ (sym c.root_fits.ensures ∙ fits))).fits

@@ -1,0 +1,39 @@
+-- What the code's values stand for.
+use Rattle.std.specs.Prelude.{Option as OptionR, Some, None, Result, List, ℕ}
+use Rattle.std.specs.Borrow.{Bor}
+use Rattle.std.proofs.Common.{Ok, Err}
+use Rattle.std.proofs.Math.Option.{Option, none, some}
+use Rattle.laws.specs.Script.{Script, stop, say}
+use Rattle.kinds.specs.declared.event.Event.{Event}
+use Rattle.kinds.specs.declared.refusal.Refusal.{Refusal}
+use Rattle.kinds.specs.declared.refusal.Refusal.TheVariants.{PastList}
+use Rattle.kinds.specs.Refusal.{number_of, answer_of}
+use Rattle.coords.specs.declared.lists.Lists.{Lists}
+use Rattle.coords.specs.declared.lists.Window.{Window}
+use Rattle.coords.specs.Coords.{Value, Absent, Past, Present, Coords, dropped, coords_s}
+
+abbrev pub list_in : {A : Type 0} → OptionR (Bor (List A)) → Option (List A)
+list_in None = none
+list_in (Some l) = some l.now
+
+abbrev pub coords_in : Lists → Coords
+coords_in l = record { many = l.many; xy = list_in l.xy; lanes = record { z = list_in l.z; m = list_in l.m; t = list_in l.t; tm = list_in l.tm } }
+
+abbrev pub value_in : OptionR ℕ → Option ℕ
+value_in None = none
+value_in (Some v) = some v
+
+-- a value as it is read: 7 where it is past its list
+abbrev pub read_of : Value → Result (OptionR ℕ) Refusal
+read_of Absent = Ok None
+read_of Past = Err PastList
+read_of (Present v) = Ok (Some v)
+
+-- a pair said before k, or a refusal
+abbrev pub told : Result Event Refusal → Script Event → Script Event
+told (Ok e) k = say e k
+told (Err r) k = stop (number_of r)
+
+-- the pairs of a window
+abbrev pub window_s : Coords → Window → Script Event
+window_s C w = coords_s C.many (dropped w.from C.lanes) w.words.now 0 (answer_of w.last)

@@ -1,0 +1,83 @@
+// A log that is being written: records one after the other, in lent memory.
+ghost use Rattle.std.specs.Prelude.{◌≡◌, ◌<◌, length};
+ghost use Rattle.laws.specs.Script.{Format, one, room_at};
+ghost use Rattle.event_log.specs.Says.{Says};
+
+use kinds::refusal::Refusal;
+use kinds::usable;
+
+// What the records of a log are, how wide they are, and how each is laid down.
+pub trait Layout {
+    type Item: Copy;
+
+    ghost format: { Self → Format Self.Item };
+
+    fn wide(&self) -> usize
+        ensures { result ≡ (format self.now).wide };
+
+    fn put(&self, bytes: &mut [u8], item: Self::Item)
+        requires { length bytes.old ≡ (format self.now).wide }
+        ensures { bytes.new ≡ (format self.now).bytes item };
+}
+
+#[derive(Drop)]
+pub struct Log<'a, L> {
+    bytes: &'a mut [u8],
+    pub layout: L,
+    count: usize,
+}
+
+impl<'a, L: Layout> Log<'a, L> {
+    // A log of which so many records are written.
+    pub fn continued(bytes: &'a mut [u8], layout: L, count: usize) -> Log<'a, L>
+        ensures memory { result.bytes.ghost_name ≡ bytes.entry.ghost_name }
+        ensures bytes { result.bytes.now ≡ bytes.old }
+        ensures layout { result.layout ≡ layout }
+        ensures count { result.count ≡ count }
+    {
+        Log {
+            bytes,
+            layout,
+            count,
+        }
+    }
+
+    // A log of no records.
+    pub fn new(bytes: &'a mut [u8], layout: L) -> Log<'a, L>
+        ensures memory { result.bytes.ghost_name ≡ bytes.entry.ghost_name }
+        ensures bytes { result.bytes.now ≡ bytes.old }
+        ensures layout { result.layout ≡ layout }
+        ensures count { result.count ≡ 0 }
+    {
+        Log::continued(bytes, layout, 0)
+    }
+
+    // How many records it has.
+    pub fn count(&self) -> usize
+        ensures { result ≡ self.now.count }
+    {
+        self.count
+    }
+
+    // Whether there is room for one more record.
+    fn has_room(&self) -> bool
+        ensures { result ≡ room_at (L.format self.now.layout).wide self.now.bytes.now self.now.count }
+    {
+        (self.count < usable::LOG_RECORDS) & (self.count < self.bytes.len() / self.layout.wide())
+    }
+
+    // Writes the next record.
+    pub fn say(&mut self, item: L::Item) -> Result<(), Refusal>
+        ensures { Says L.format (one item) self.old self.new result }
+    {
+        if !self.has_room() {
+            return Err(Refusal::LogFull);
+        }
+        let wide = self.layout.wide();
+        let from = wide * self.count;
+        let end = from + wide;
+        self.layout.put(&mut self.bytes[from..end], item);
+        self.count += 1;
+        Ok(())
+    }
+}

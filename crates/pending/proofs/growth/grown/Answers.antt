@@ -1,4 +1,0 @@
-use Rattle.pending.proofs.growth.grown.Goals as goal
-
-pub returns : goal.returns
-returns c = cc

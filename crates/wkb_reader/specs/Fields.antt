@@ -1,0 +1,12 @@
+-- A field taken off the front of what is left, or cut short.
+use Rattle.std.specs.Prelude.{◌≡◌, ℕ, ◌<◌, ◌≤◌, length, take, drop, Result}
+use Rattle.std.proofs.Common.{Ok, Err}
+use Rattle.kinds.specs.declared.refusal.Refusal.{Refusal}
+use Rattle.kinds.specs.declared.refusal.Refusal.TheVariants.{WkbCut}
+use Rattle.wkb.specs.Order.{value_of}
+use Rattle.wkb.specs.declared.order.Order.{Order}
+use Rattle.wkb_reader.specs.declared.input.Input.{Input}
+
+abbrev pub FieldIs : Order → ℕ → Input → Input → Result ℕ Refusal → Type 0
+FieldIs order wide i j (Ok v) = (wide ≤ length i.left.now) × (v ≡ value_of order (take wide i.left.now)) × (j.left.now ≡ drop wide i.left.now)
+FieldIs order wide i j (Err e) = (length i.left.now < wide) × (e ≡ WkbCut)

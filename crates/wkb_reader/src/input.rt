@@ -1,0 +1,43 @@
+// The bytes that are left to be read, taken field by field.
+ghost use Rattle.std.specs.Prelude.{◌≡◌};
+ghost use Rattle.wkb_reader.specs.Fields.{FieldIs};
+
+use kinds::refusal::Refusal;
+use wkb::Order;
+
+#[derive(Clone, Copy)]
+pub struct Input<'a> {
+    pub left: &'a [u8],
+}
+
+impl<'a> Input<'a> {
+    pub fn byte(&mut self) -> Result<u8, Refusal>
+        ensures { FieldIs Order.Little 1 self.old self.new result }
+    {
+        let Some((byte, rest)) = self.left.split_first() else {
+            return Err(Refusal::WkbCut);
+        };
+        self.left = rest;
+        Ok(*byte)
+    }
+
+    pub fn u32(&mut self, order: Order) -> Result<u32, Refusal>
+        ensures { FieldIs order 4 self.old self.new result }
+    {
+        let Some((field, rest)) = self.left.split_at_checked(4) else {
+            return Err(Refusal::WkbCut);
+        };
+        self.left = rest;
+        Ok(wkb::u32_at(field, 0, order))
+    }
+
+    pub fn u64(&mut self, order: Order) -> Result<u64, Refusal>
+        ensures { FieldIs order 8 self.old self.new result }
+    {
+        let Some((field, rest)) = self.left.split_at_checked(8) else {
+            return Err(Refusal::WkbCut);
+        };
+        self.left = rest;
+        Ok(wkb::u64_at(field, 0, order))
+    }
+}
