@@ -56,6 +56,12 @@ pub fn bintolage_event(
         let words = state.old in
         kept result state.new after ≡ kept_of words (event_call (state_of words) before event.now) }
 {
+    // A pair by itself is the commonest call, and with a keep of its own the state's words are packed in registers.
+    if let Some(Xy { x, y }) = event_log::hear_bare(event) {
+        let n = event_log::feature_in(event);
+        let wrote = writer::pair(state_of(state), n, x, y, table, xy, ends, z, m, t, tm);
+        return keep(state, wrote);
+    }
     let mut pools = PoolsMut {
         xy,
         ends,
@@ -64,12 +70,6 @@ pub fn bintolage_event(
         t,
         tm,
     };
-    // A pair by itself is the commonest call, and with a keep of its own the state's words are packed in registers.
-    if let Some(Xy { x, y }) = event_log::hear_bare(event) {
-        let n = event_log::feature_in(event);
-        let wrote = writer::pair(state_of(state), n, x, y, table, &mut pools);
-        return keep(state, wrote);
-    }
     let taken = writer::event(state_of(state), event, table, &mut pools);
     keep(state, taken)
 }

@@ -125,12 +125,13 @@ fn bytes_at(
         return Err(PropertyRefusal::Other(Refusal::ValueCut));
     }
     let end = start + count;
+    let kind = kind.number();
     if let Some(place) = bad_text(kind, &bytes[start..end]) {
         return Err(PropertyRefusal::NotUtf8(place));
     }
     let value = Value {
         column,
-        kind: kind.number(),
+        kind,
         len,
         word: start as u64,
     };

@@ -33,13 +33,12 @@ pub fn word_of(kind: ColumnType, bits: u64) -> u64
     }
 }
 
-// Where a value's bytes cease to be what its type holds them to be. Binary may hold any bytes.
-pub fn bad_text(kind: ColumnType, bytes: &[u8]) -> Option<usize>
-    ensures { Checked (type_number kind) bytes.now result }
+// Where a value's bytes cease to be what its type holds them to be. Binary may hold any bytes, and so may a value of no type.
+pub fn bad_text(kind: u8, text: &[u8]) -> Option<usize>
+    ensures { Checked kind text.now result }
 {
-    if is_text(kind) {
-        first_bad(bytes)
-    } else {
-        None
-    }
+    let Ok(kind) = ColumnType::try_from(kind) else {
+        return None;
+    };
+    if is_text(kind) { first_bad(text) } else { None }
 }

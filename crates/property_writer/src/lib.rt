@@ -61,7 +61,7 @@ fn judge(
     if is_malformed(kind, property.bits) {
         return Err(PropertyRefusal::Other(Refusal::Malformed));
     }
-    if let Some(place) = bad_text(kind, property.text) {
+    if let Some(place) = bad_text(property.kind, property.text) {
         return Err(PropertyRefusal::NotUtf8(place));
     }
     if used as usize + property_length(kind, property.text) > usable_length(lent) {

@@ -91,7 +91,13 @@ fn read_part(
     if levels == 0 {
         return Err(Refusal::TooDeep);
     }
-    if let Some(Stretch { start, count }) = lone_part(store, flags, role, n) {
+    if let Some(Stretch { start, count }) = lone_part(
+        store.table,
+        store.pools.xy.len(),
+        flags,
+        role,
+        n,
+    ) {
         let from = start as usize;
         let end = from + count as usize;
         let ring = Ring {

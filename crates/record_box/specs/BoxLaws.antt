@@ -49,33 +49,35 @@ pub past_box : (table : List ℕ) (P : Pools) (n : ℕ) → 4096 ≤ n → boxed
 past_box table P n h = bad_box (record_with table P) n (with_bad table P n (past-usable table (lent_of P) n h))
 
 -- ---- the answer, by what the walk with a memory left
-module _ (table : List ℕ) (P : Pools) (n : ℕ) where
+module _ (table : List ℕ) (P : Pools) (n : ℕ) {first : Box} (q : first ≡ beginning) where
   abbrev get : ℕ → Option Rec
   get = record_with table P
 
-  abbrev walk : (ℕ → Option Parts) → (ℕ → Box → Box) → Box → List ℕ → Left Box
-  walk records own b marks = kept uncounted records own 16 n b marks 0
+  abbrev walk : (ℕ → Option Parts) → (ℕ → Box → Box) → Box → Left Box
+  walk records own b = kept uncounted records own 16 n b (replicate 4096 17) 0
 
-  agreed : Agree (box_grows get) (parts_by get) (through (parts_by get) (own_box get) 16 n beginning) (walk (parts_by get) (own_box get) beginning (replicate 4096 0))
+  abbrev by_code : Left Box
+  by_code = walk (parts_lent table (lent_of P)) (own_lent table (lent_of P) P.xy) first
+
+  agreed : Agree (box_grows get) (parts_by get) (through (parts_by get) (own_box get) 16 n beginning) (walk (parts_by get) (own_box get) beginning)
   agreed =
-      agrees (box_grows get) (parts_by get) uncounted 16 n beginning (replicate 4096 0) 0 (omega arith)
-      (none_marked (box_grows get) (parts_by get) 0 4096 beginning refl)
+      agrees (box_grows get) (parts_by get) uncounted 16 n beginning (replicate 4096 17) 0 (omega arith)
+      (none_marked (box_grows get) (parts_by get) 17 4096 beginning refl)
 
-  module _ {first : Box} (q : first ≡ beginning) {marks : List ℕ} (z : marks ≡ replicate 4096 0) where
-    module _ {c : ℕ} {b : Box} {m : List ℕ} (h : walk (parts_lent table (lent_of P)) (own_lent table (lent_of P) P.xy) first marks ≡ left c b m 0) where
-      went_so : walk (parts_by get) (own_box get) beginning (replicate 4096 0) ≡ left c b m 0
-      went_so =
-          (λ i. walk (parts-by-lent table P i) (own-by-lent table P i) beginning (replicate 4096 0))
-          ∙ sym (λ i. walk (parts_lent table (lent_of P)) (own_lent table (lent_of P) P.xy) (q i) (z i)) ∙ h
+  module _ {c : ℕ} {b : Box} {m : List ℕ} (h : by_code ≡ left c b m 0) where
+    went_so : walk (parts_by get) (own_box get) beginning ≡ left c b m 0
+    went_so =
+        (λ i. walk (parts-by-lent table P i) (own-by-lent table P i) beginning)
+        ∙ ap (walk (parts_lent table (lent_of P)) (own_lent table (lent_of P) P.xy)) (sym q) ∙ h
 
-      refused_box : (c ≡ 0 → ⊥) → boxed (refused c) ≡ box_of get n
-      unfolding box_of
-      refused_box y = ap boxed (sym (so_refused (box_grows get) (parts_by get) agreed went_so y))
+    refused_box : (c ≡ 0 → ⊥) → boxed (refused c) ≡ box_of get n
+    unfolding box_of
+    refused_box z = ap boxed (sym (so_refused (box_grows get) (parts_by get) agreed went_so z))
 
-      went_box : c ≡ 0 → boxed (went b) ≡ box_of get n
-      unfolding box_of
-      went_box y = ap boxed (sym (so_went (box_grows get) (parts_by get) agreed went_so y))
+    went_box : c ≡ 0 → boxed (went b) ≡ box_of get n
+    unfolding box_of
+    went_box z = ap boxed (sym (so_went (box_grows get) (parts_by get) agreed went_so z))
 
-    pub left_box : (r : Result Box Refusal) (m : List ℕ) → Leaves (walk (parts_lent table (lent_of P)) (own_lent table (lent_of P) P.xy) first marks) r m → boxed_of r ≡ box_of get n
-    left_box (Ok b) m h = went_box h refl
-    left_box (Err r) m h = refused_box h.1 (number-refused r)
+  pub left_box : (r : Result Box Refusal) (m : List ℕ) → Leaves by_code r m → boxed_of r ≡ box_of get n
+  left_box (Ok b) m h = went_box h refl
+  left_box (Err r) m h = refused_box h.1 (number-refused r)

@@ -1,11 +1,10 @@
--- SPEC 8.6: how far the walk of a box goes. The premise is what the code of the walk ensures (`enter`), so it is met for any table, pools and number;
--- the marks begin as any number that is no mark, in the code as 0.
-use Rattle.std.specs.Prelude.{◌≡◌, false, List, ℕ, ◌+◌, ◌*◌, ◌<◌, ◌≤◌, replicate}
+-- SPEC 8.6: how far the walk of a box goes. The premise is what the code of the walk ensures (`enter`), so it is met for any table, pools and number.
+use Rattle.std.specs.Prelude.{◌≡◌, refl, List, ℕ, ◌+◌, ◌*◌, ◌<◌, ◌≤◌, replicate}
 use Rattle.std.proofs.Math.Option.{Option, some}
 use Rattle.std.proofs.Common.{arith}
 use Rattle.kinds.specs.Lanes.{Lent}
 use Rattle.tree_walk.specs.declared.Parts.{Parts}
-use Rattle.tree_walk.specs.Memory.{left, is_mark, kept, uncounted}
+use Rattle.tree_walk.specs.Memory.{left, kept, uncounted}
 use Rattle.tree_walk.specs.Visits.{places}
 use Rattle.tree_walk.proofs.Alike.{few_in_all}
 use Rattle.tree_walk.specs.Looks.{Looks, look}
@@ -27,11 +26,11 @@ module _ (table : List ℕ) (lent : Lent) (xy : List ℕ) (n : ℕ) where
   usable : (x : ℕ) (r : Parts) → records x ≡ some r → x < 4096
   usable x r e = (placed table lent x r e).number
 
-  module _ (first : Box) (blank : ℕ) (z : is_mark blank ≡ false) {c : ℕ} {b : Box} {m : List ℕ} (h : kept uncounted records own 16 n first (replicate 4096 blank) 0 ≡ left c b m 0) where
+  module _ (first : Box) {c : ℕ} {b : Box} {m : List ℕ} (h : kept uncounted records own 16 n first (replicate 4096 17) 0 ≡ left c b m 0) where
     -- the same walk, with the records counted that it enters, skipped or not, good or bad: at most one, and sixteen for each place in a parts list
-    pub few_entered : (w : ℕ) × (kept (λ x. x + 1) records own 16 n first (replicate 4096 blank) 0 ≡ left c b m w) × (w ≤ 1 + 16 * places records 4096 0)
-    few_entered = few_in_all uncounted records own 16 4096 blank (omega arith) z above usable 16 n first 0 (omega arith) h
+    pub few_entered : (w : ℕ) × (kept (λ x. x + 1) records own 16 n first (replicate 4096 17) 0 ≡ left c b m w) × (w ≤ 1 + 16 * places records 4096 0)
+    few_entered = few_in_all uncounted records own 16 4096 17 (omega arith) refl above usable 16 n first 0 (omega arith) h
 
     -- the same walk, with the looks counted at each record's own list: no list is looked at twice
-    pub looked_once : (f : Looks) × (w : ℕ) × (kept uncounted records look 16 n (λ x. 0) (replicate 4096 blank) 0 ≡ left c f m w) × ((x : ℕ) → f x ≤ 1)
-    looked_once = looks_once 4096 uncounted records above usable own blank 16 n first 0 (omega arith) h
+    pub looked_once : (f : Looks) × (w : ℕ) × (kept uncounted records look 16 n (λ x. 0) (replicate 4096 17) 0 ≡ left c f m w) × ((x : ℕ) → f x ≤ 1)
+    looked_once = looks_once 4096 uncounted records above usable own 17 16 n first 0 (omega arith) h

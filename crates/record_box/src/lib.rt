@@ -4,7 +4,6 @@
 ghost use Rattle.std.specs.Prelude.{◌≡◌, ◌-◌, ◌<◌, length};
 ghost use Rattle.store.specs.RecordLaws.{InPool};
 ghost use Rattle.store.specs.Lists.{lent_of, pools_in, record_with};
-ghost use Rattle.tree_walk.specs.Marked.{mark_number, numbers_of};
 ghost use Rattle.tree_walk.specs.Memory.{walked, kept, uncounted};
 ghost use Rattle.tree_walk.specs.Records.{parts_lent};
 ghost use Rattle.record_box.specs.Boxed.{boxed_of, box_of};
@@ -14,14 +13,13 @@ use bbox::Box;
 use kinds::geometry::Stretch;
 use kinds::refusal::Refusal;
 use kinds::usable;
-use std::num::NonZeroU8;
 use store::Store;
-use tree_walk::{Mark, Marks, is_clear, parts_of};
+use tree_walk::{Marks, NONE, is_clear, parts_of};
 
 // A record's own list is looked at only where the record was never walked through.
-fn own_once(xy: &[u64], list: Option<Stretch>, mark: Mark, around: Box) -> Box
+fn own_once(xy: &[u64], list: Option<Stretch>, mark: u16, around: Box) -> Box
     requires { InPool list (length xy.now) 131072 }
-    ensures { result ≡ own_looked xy.now (mark_number mark) list around }
+    ensures { result ≡ own_looked xy.now mark list around }
 {
     if is_clear(mark, usable::LEVELS) {
         return around;
@@ -48,7 +46,7 @@ fn enter(
     requires { n < 4096 }
     ensures { let P = pools_in store.now.pools in
         let get = parts_lent store.now.table.now (lent_of P) in
-        Leaves (kept uncounted get (own_lent store.now.table.now (lent_of P) P.xy) levels n around (numbers_of marks.old) 0) result (numbers_of marks.new) }
+        Leaves (kept uncounted get (own_lent store.now.table.now (lent_of P) P.xy) levels n around marks.old 0) result marks.new }
 {
     if levels == 0 {
         return Err(Refusal::TooDeep);
@@ -60,7 +58,7 @@ fn enter(
     }
     if let Some(list) = store.lone_list(n) {
         let bbox = own_once(store.pools.xy, Some(list), mark, around);
-        marks[n] = NonZeroU8::new(levels);
+        marks[n] = levels as u16;
         return Ok(bbox);
     }
     walk(store, marks, n, levels, around)
@@ -74,7 +72,7 @@ fn walk(store: &Store, marks: &mut Marks, n: usize, levels: u8, around: Box) -> 
     ensures { let P = pools_in store.now.pools in
         let get = parts_lent store.now.table.now (lent_of P) in
         let own = own_lent store.now.table.now (lent_of P) P.xy in
-        Leaves (walked get own (kept uncounted get own (levels - 1)) levels n around (numbers_of marks.old) 0) result (numbers_of marks.new) }
+        Leaves (walked get own (kept uncounted get own (levels - 1)) levels n around marks.old 0) result marks.new }
 {
     let Some(g) = store.record(n) else {
         return Err(Refusal::BadRecord);
@@ -86,7 +84,7 @@ fn walk(store: &Store, marks: &mut Marks, n: usize, levels: u8, around: Box) -> 
         so_far = enter(store, marks, part, levels - 1, so_far)?;
     }
     // Behind the last part, so that a record with a mark is one whose parts were refused nothing.
-    marks[n] = NonZeroU8::new(levels);
+    marks[n] = levels as u16;
     Ok(so_far)
 }
 
@@ -97,7 +95,7 @@ pub fn box_at(store: &Store, n: usize) -> Result<Box, Refusal>
     if usable::RECORDS <= n {
         Err(Refusal::BadRecord)
     } else {
-        let mut marks = [None; usable::RECORDS];
+        let mut marks = [NONE; usable::RECORDS];
         enter(store, &mut marks, n, usable::LEVELS, Box::empty())
     }
 }

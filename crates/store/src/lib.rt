@@ -5,4 +5,4 @@ mod pools;
 mod records;
 
 pub use pools::{Pools, Store};
-pub use records::{put_record, record_at, records_lent};
+pub use records::{lone_list_at, put_record, record_at, records_lent};

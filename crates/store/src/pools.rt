@@ -1,13 +1,12 @@
 // What is lent to be read: pools of words, and a table of geometry records whose lists lie in them.
 ghost use Rattle.std.specs.Prelude.{◌≡◌, length};
 ghost use Rattle.store.specs.Lists.{lent_of, pools_in};
-ghost use Rattle.store.specs.Lone.{LoneAt, in_xy_pool};
+ghost use Rattle.store.specs.Lone.{LoneAt};
 ghost use Rattle.store.specs.Records.{record_at};
 
-use crate::records::{bytes_of, has_record, in_pool, record_at};
+use crate::records::{lone_list_at, record_at};
 use kinds::geometry::{Geometry, Stretch};
 use kinds::lanes::{Lanes, Lent};
-use kinds::usable;
 
 #[derive(Clone, Copy)]
 pub struct Pools<'a> {
@@ -41,16 +40,6 @@ impl<'a> Pools<'a> {
     }
 }
 
-fn in_xy_pool(read: Option<Stretch>, lent: usize) -> Option<Stretch>
-    ensures { result ≡ in_xy_pool read lent }
-{
-    if in_pool(read, lent, usable::XY_WORDS) {
-        read
-    } else {
-        None
-    }
-}
-
 impl<'a> Store<'a> {
     // The record with a number, its lists as stretches of the pools.
     pub fn record(&self, n: usize) -> Option<Geometry>
@@ -63,12 +52,6 @@ impl<'a> Store<'a> {
     pub fn lone_list(&self, n: usize) -> Option<Stretch>
         ensures { LoneAt self.now.table.now (length self.now.pools.xy.now) n result }
     {
-        if !has_record(self.table, n) {
-            return None;
-        }
-        in_xy_pool(
-            geometry_layout::lone_list(bytes_of(self.table, n)),
-            self.pools.xy.len(),
-        )
+        lone_list_at(self.table, self.pools.xy.len(), n)
     }
 }

@@ -1,6 +1,7 @@
 // Geometry records by number.
 ghost use Rattle.std.specs.Prelude.{◌≡◌, ◌+◌, ◌<◌, length};
 ghost use Rattle.laws.specs.Blocks.{block};
+ghost use Rattle.store.specs.Lone.{LoneAt, in_xy_pool};
 ghost use Rattle.store.specs.Records.{records_lent, has_record, in_pool, in_table, lists_in, record_at, put_record};
 
 use kinds::geometry::{Geometry, Stretch};
@@ -14,7 +15,7 @@ pub fn records_lent(table: &[u8]) -> usize
     table.len() / 64
 }
 
-pub fn has_record(table: &[u8], n: usize) -> bool
+fn has_record(table: &[u8], n: usize) -> bool
     ensures { result ≡ has_record table.now n }
 {
     let lent = table.len() / 64;
@@ -22,7 +23,7 @@ pub fn has_record(table: &[u8], n: usize) -> bool
 }
 
 // The bytes of the record with a number.
-pub fn bytes_of(table: &[u8], n: usize) -> &[u8]
+fn bytes_of(table: &[u8], n: usize) -> &[u8]
     requires { n < records_lent table.now }
     ensures bytes { result.now ≡ block 64 table.now n }
     ensures long { length result.now ≡ 64 }
@@ -31,7 +32,7 @@ pub fn bytes_of(table: &[u8], n: usize) -> &[u8]
     &table[from..from + 64]
 }
 
-pub fn in_pool(list: Option<Stretch>, lent: usize, most: usize) -> bool
+fn in_pool(list: Option<Stretch>, lent: usize, most: usize) -> bool
     ensures { result ≡ in_pool list lent most }
 {
     match list {
@@ -81,6 +82,27 @@ pub fn record_at(table: &[u8], pools: Lent, n: usize) -> Option<Geometry>
     } else {
         None
     }
+}
+
+fn in_xy_pool(read: Option<Stretch>, lent: usize) -> Option<Stretch>
+    ensures { result ≡ in_xy_pool read lent }
+{
+    if in_pool(read, lent, usable::XY_WORDS) {
+        read
+    } else {
+        None
+    }
+}
+
+// The list of the record with a number, where it is an xy list in a pool of which so much is lent and the record has no other:
+// a quick way to what `record_at` says of it.
+pub fn lone_list_at(table: &[u8], lent: usize, n: usize) -> Option<Stretch>
+    ensures { LoneAt table.now lent n result }
+{
+    if !has_record(table, n) {
+        return None;
+    }
+    in_xy_pool(geometry_layout::lone_list(bytes_of(table, n)), lent)
 }
 
 // Puts a record down in a table that has its number.

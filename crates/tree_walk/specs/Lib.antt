@@ -6,7 +6,6 @@ pub mod Anywhere
 pub mod Widen
 pub mod Reached
 pub mod Memory
-pub mod Marked
 pub mod Cases
 pub mod Steps
 pub mod Visits

@@ -2,14 +2,12 @@
 #![tactic(auto)]
 
 ghost use Rattle.std.specs.Prelude.{◌≡◌, ◌<◌};
-ghost use Rattle.tree_walk.specs.Marked.{mark_number};
 ghost use Rattle.tree_walk.specs.Memory.{skips};
 ghost use Rattle.store.specs.Lists.{parts_of};
 ghost use Rattle.tree_walk.specs.Records.{parts_from};
 
 use kinds::geometry::Stretch;
 use kinds::usable;
-use std::num::NonZeroU8;
 
 // Consecutive records, so many from a number on.
 #[derive(Clone, Copy)]
@@ -18,11 +16,12 @@ pub struct Parts {
     pub count: u32,
 }
 
-// How many levels were left, its own among them, when a record was last walked through, if it ever was.
-pub type Mark = Option<NonZeroU8>;
+// For each record how many levels were left, its own among them, when it was last walked through, or NONE.
+pub type Marks = [u16; usable::RECORDS];
 
-// The mark of each record.
-pub type Marks = [Mark; usable::RECORDS];
+// The mark of a record that was never walked through: more than any record has levels left. 0 is no mark either. It is kept as
+// a number, since is_clear takes any u16.
+pub const NONE: u16 = 17;
 
 // The parts of record n. Without a list there are none.
 pub fn parts_of(list: Option<Stretch>, n: usize) -> Parts
@@ -41,12 +40,9 @@ pub fn parts_of(list: Option<Stretch>, n: usize) -> Parts
     }
 }
 
-// Whether a record with such a mark was walked through with so many levels left, or fewer.
-pub fn is_clear(mark: Mark, levels: u8) -> bool
-    ensures { result ≡ skips (mark_number mark) levels }
+// Whether a record with such a mark was walked through with so many levels left, or fewer. 0 is no mark, as NONE is none.
+pub fn is_clear(mark: u16, levels: u8) -> bool
+    ensures { result ≡ skips mark levels }
 {
-    match mark {
-        Some(left) => left.get() <= levels,
-        None => false,
-    }
+    (0 < mark) & (mark <= levels as u16)
 }

@@ -8,7 +8,7 @@ ghost use Rattle.event_log.specs.Log.{feature_in};
 ghost use Rattle.event_log.specs.LogLaws.{HeardPair};
 ghost use Rattle.store.specs.Lists.{pools_in};
 ghost use Rattle.pools.specs.PoolsMut.{pools_now, SamePools};
-ghost use Rattle.writing.specs.State.{memory, wrote_of, outcome};
+ghost use Rattle.writing.specs.State.{memory, mem_of, wrote_of, outcome};
 ghost use Rattle.writing.specs.Calls.{started, event_call, finish_call, next_call};
 
 use asking::typing::Typing;
@@ -52,22 +52,35 @@ pub fn start(declared: u8, detect: bool, promote: bool) -> State
     }
 }
 
-// Takes a pair given by itself, for a feature's number: what `event` does with a record that is heard so. Refused: 15, 17, 12.
+// Takes a pair given by itself, for a feature's number: what `event` does with a record that is heard so. Only the xy pool is written.
+// Refused: 15, 17, 12.
 pub fn pair(
     s: State,
     n: u32,
     x: u64,
     y: u64,
     table: &[u8],
-    pools: &mut PoolsMut,
+    xy: &mut [u64],
+    ends: &[u32],
+    z: &[u64],
+    m: &[u64],
+    t: &[u64],
+    tm: &[u64],
 ) -> Result<State, Refusal>
-    ensures same { SamePools pools.old pools.new }
-    ensures took { let before = memory table.now (pools_now pools.old) in
-        let after = memory table.now (pools_now pools.new) in
+    ensures { let before = mem_of table.now xy.old ends.now z.now m.now t.now tm.now in
+        let after = mem_of table.now xy.new ends.now z.now m.now t.now tm.now in
         ((bytes : List ℕ) → n ≡ feature_in bytes → HeardPair bytes x y → outcome (wrote_of s result) after ≡ event_call s before bytes) }
 {
-    let ready = is_ready(s, store::records_lent(table), pools.lent());
-    take_alone(s, n, ready, x, y, pools.xy)
+    let lent = Lanes {
+        xy: xy.len(),
+        ends: ends.len(),
+        z: z.len(),
+        m: m.len(),
+        t: t.len(),
+        tm: tm.len(),
+    };
+    let ready = is_ready(s, store::records_lent(table), lent);
+    take_alone(s, n, ready, x, y, xy)
 }
 
 // Takes an event's record. Refused: 11, 15, 17, 5, 12.

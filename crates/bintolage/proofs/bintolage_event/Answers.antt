@@ -13,7 +13,7 @@ pub returns-in-Some : goal.returns-in-Some
 returns-in-Some c =
     let bytes = c.args.event.now in
     let pair = look-heard bytes c.hear_bare.ensures c.in-Some.is in
-    let told = kept_call (λ (s : State). event_call s (memory c.args.table.now (pools_of c.args.xy.now c.args.ends.now c.args.z.now c.args.m.now c.args.t.now c.args.tm.now)) bytes) c.args.state.now _ _ c.state_of.ensures (c.pair-wrote.ensures.took bytes c.feature_in-n.ensures pair) c.keep.ensures.value c.keep.ensures.words_after in
+    let told = kept_call (λ (s : State). event_call s (memory c.args.table.now (pools_of c.args.xy.now c.args.ends.now c.args.z.now c.args.m.now c.args.t.now c.args.tm.now)) bytes) c.args.state.now _ _ c.state_of.ensures (c.pair-wrote.ensures bytes c.feature_in-n.ensures pair) c.keep.ensures.value c.keep.ensures.words_after in
     search (rules, told)
 
 pub returns : goal.returns

@@ -60,10 +60,10 @@ returns-in-Some c =
     rw (
       c.if-waiting.false,
       le-ltb 65535 _ c.if-property-gt65535.false,
+      c.in-Some.ensures.0,
       ← c.in-Ok.ensures,
       ← c.is_malformed.ensures,
       c.if-is_malformed.false,
-      c.in-Some.ensures.0,
     ) (refl, c.in-Some.ensures.1)
 
 pub overflow_add-used : goal.overflow_add-used
@@ -84,7 +84,7 @@ returns-then-used-property_length c =
     index
     c.is_malformed.ensures
     c.if-is_malformed.false
-    c.in_default-bad_text.ensures
+    (rw (← c.in-Ok.ensures) at c.in_default-bad_text.ensures)
     c.property_length.ensures
     c.usable_length.ensures in
     rw (← c.in-Ok.ensures, r, lt-ltb _ _ c.if-used-property_length.true) (refl, refl)
@@ -101,7 +101,7 @@ returns c =
     index
     c.is_malformed.ensures
     c.if-is_malformed.false
-    c.in_default-bad_text.ensures
+    (rw (← c.in-Ok.ensures) at c.in_default-bad_text.ensures)
     c.property_length.ensures
     c.usable_length.ensures in
     (rw (← c.in-Ok.ensures, r, le-ltb _ _ c.if-used-property_length.false), c.in-Ok.ensures)

@@ -1,6 +1,5 @@
 use Rattle.std.proofs.Common.{◌-◌, ◌≡◌, ◌+◌, ◌*◌}
 use Rattle.store.specs.Lists.{lent_of, pools_in}
-use Rattle.tree_walk.specs.Marked.{numbers_of}
 use Rattle.tree_walk.specs.Memory.{next, parts_kept, marking, walked, kept, uncounted}
 use Rattle.tree_walk.specs.Records.{parts_lent}
 use Rattle.record_box.specs.Lent.{own_lent}
@@ -19,4 +18,4 @@ invariant-walk-loop-part l =
     let get = parts_lent l.fn.store.table.now (lent_of P) in
     let own = own_lent l.fn.store.table.now (lent_of P) P.xy in
     let part = kept uncounted get own (l.levels - 1) in
-    walked get own part l.levels l.n l.fn.around (numbers_of l.fn.marks) 0 ≡ next (parts_kept part (l.end - l.part) l.part l.so_far (numbers_of l.marks) 0) (marking l.n l.levels)
+    walked get own part l.levels l.n l.fn.around l.fn.marks 0 ≡ next (parts_kept part (l.end - l.part) l.part l.so_far l.marks 0) (marking l.n l.levels)

@@ -1,5 +1,4 @@
 use Rattle.store.specs.Lists.{pools_in}
-use Rattle.tree_walk.specs.Marked.{numbers_of, numbers_blank}
 use Rattle.record_box.specs.BoxLaws.{past_box, left_box}
 use Rattle.record_box.proofs.box_at.Goals as goal
 
@@ -11,4 +10,4 @@ returns-then-n-ge-RECORDS c =
 pub returns-else-n-ge-RECORDS : goal.returns-else-n-ge-RECORDS
 returns-else-n-ge-RECORDS c =
     let s = c.args.store.now in
-    left_box s.table.now (pools_in s.pools) c.args.n c.empty.ensures (numbers_blank 4096) c.enter.result (numbers_of c.enter.new.marks) c.enter.ensures
+    left_box s.table.now (pools_in s.pools) c.args.n c.empty.ensures c.enter.result c.enter.new.marks c.enter.ensures

@@ -1,13 +1,13 @@
 use mathlib.Core.Path.{sym, ◌∙◌}
+use Rattle.store.specs.Lists.{pools_of, lent_of}
 use Rattle.writing.specs.Calls.{is_ready}
 use Rattle.runs.specs.Run.{pair-alone}
 use Rattle.writer.proofs.pair.Goals as goal
 
-pub returns-clause-took : goal.returns-clause-took
-returns-clause-took c =
+pub returns : goal.returns
+returns c =
     λ bytes number heard.
-    let s = c.args.s in
-    let p = c.args.pools.now in
-    pair-alone s c.args.table.now p.xy.now p.ends.now p.z.now p.m.now p.t.now p.tm.now bytes number heard
-    (sym (c.is_ready-ready.ensures ∙ (λ i. is_ready s (c.records_lent.ensures i) (c.lent.ensures i))))
+    let a = c.args in
+    pair-alone a.s a.table.now a.xy.now a.ends.now a.z.now a.m.now a.t.now a.tm.now bytes number heard
+    (sym (c.is_ready-ready.ensures ∙ (λ i. is_ready a.s (c.records_lent.ensures i) (lent_of (pools_of a.xy.now a.ends.now a.z.now a.m.now a.t.now a.tm.now)))))
     c.take_alone.ensures.answer c.take_alone.ensures.words

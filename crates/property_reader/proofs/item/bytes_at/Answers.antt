@@ -13,7 +13,7 @@ returns-in-Some c =
     unfold bytes_at in
     let a = c.args in
     let same : a.start + a.len - a.start ≡ a.len = omega arith in
-    let text = rw same at c.in-Some.ensures in
+    let text = rw (same, c.number-kind.ensures) at c.in-Some.ensures in
     rw (le-ltb _ _ c.if-bytes-start.false, text.0, text.1)
 
 pub returns : goal.returns
@@ -21,4 +21,4 @@ returns c =
     unfold bytes_at in
     let a = c.args in
     let same : a.start + a.len - a.start ≡ a.len = omega arith in
-    rw (le-ltb _ _ c.if-bytes-start.false, rw same at c.in_default.ensures, c.number.ensures)
+    rw (le-ltb _ _ c.if-bytes-start.false, rw (same, c.number-kind.ensures) at c.in_default.ensures, c.number-kind.ensures)
