@@ -2,16 +2,34 @@
 use Rattle.std.specs.Prelude.{Option, Some, None, ◌≡◌, refl, Bool, true, false, cond, ◌&&◌, List, ◌∷◌, ℕ}
 use Rattle.std.proofs.Common.{ap}
 use Rattle.laws.specs.Every.{never}
-use Rattle.nesting.specs.declared.frame.Frame.{Frame as Held}
+use Rattle.nesting.specs.declared.frame.Frame.{Frame as FrameR}
 use Rattle.nesting.specs.declared.geometry_type.GeometryType.{GeometryType}
 use Rattle.nesting.specs.declared.geometry_type.GeometryType.TheVariants.{Point, LineString, Polygon, MultiPoint, MultiLineString, MultiPolygon, Collection}
 use Rattle.nesting.specs.Rules.{Rules}
 use Rattle.nesting.specs.Machine.{Frame, frame, within, Answer, taken, refused, number, same, count, only_lines, only_polygons, Place, here, too_deep, nowhere, place, begin_fits, begin_at}
 use Rattle.nesting.specs.Levels.{rules_for}
+use Rattle.nesting.specs.Tests.{same_number}
 
--- the machine's frame that the code's is
+-- a code's frame, whose kind has a number, is one of the machine's
+pub record Is {K : Type 0} (numbered : K → ℕ) (f : FrameR K) (g : Frame) : Type 0 where
+  pub kind : numbered f.kind ≡ number g.type
+  pub tagged : f.tagged ≡ g.tagged
+  pub idx : f.idx ≡ g.idx
+  pub size : f.size ≡ g.size
+  pub done : f.done ≡ g.done
+
+-- a code's frame whose kind is the type itself, and the machine's that it is
+abbrev pub Held : Type 0
+Held = FrameR GeometryType
+
 abbrev pub frame_of : Held → Frame
 frame_of f = frame f.kind f.tagged f.idx f.size f.done
+
+pub own : (f : Held) → Is number f (frame_of f)
+own f = record { kind = refl; tagged = refl; idx = refl; size = refl; done = refl }
+
+pub own_is : (f : Held) (g : Frame) → Is number f g → frame_of f ≡ g
+own_is f g i = rw (same_number f.kind g.type i.kind, i.tagged, i.idx, i.size, i.done) refl
 
 -- what a number is told to be: a type, or none
 abbrev pub OfNumber : ℕ → Option GeometryType → Type 0

@@ -35,8 +35,11 @@ numbered-number MultiLineString = refl
 numbered-number MultiPolygon = refl
 numbered-number Collection = refl
 
+pub same_number : (t u : GeometryType) → number t ≡ number u → t ≡ u
+same_number t u e = sym (numbered-number t) ∙ ap numbered e ∙ numbered-number u
+
 pub number_true : (t u : GeometryType) → eqb (number t) (number u) ≡ true → t ≡ u
-number_true t u e = sym (numbered-number t) ∙ ap numbered (eqb-true (number t) (number u) e) ∙ numbered-number u
+number_true t u e = same_number t u (eqb-true (number t) (number u) e)
 
 module _ (R : Rules) where
   -- ---- levels

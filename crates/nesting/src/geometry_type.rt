@@ -1,5 +1,6 @@
 // The types of geometry whose events the machine takes, and what each may hold.
-ghost use Rattle.std.specs.Prelude.{◌≡◌};
+ghost use Rattle.std.specs.Prelude.{◌≡◌, ℕ};
+ghost use Rattle.nesting.specs.declared.geometry_type.GeometryType.{GeometryType};
 ghost use Rattle.nesting.specs.Machine.{number, of_pairs, allowed};
 ghost use Rattle.nesting.specs.Levels.{opens_where};
 ghost use Rattle.nesting.specs.Taking.{OfNumber, ample, standing, tag_fits};
@@ -87,5 +88,50 @@ impl GeometryType {
             (GeometryType::Collection, _) => !tagged,
             _ => false,
         }
+    }
+}
+
+// What names one of these types: the type itself, or a byte, of which only the numbers of types name one.
+pub trait Kind: Copy {
+    ghost numbered: { Self → ℕ };
+
+    fn of_type(kind: GeometryType) -> Self
+        ensures { numbered result ≡ number kind };
+
+    fn geometry_type(self) -> Option<GeometryType>
+        ensures { OfNumber (numbered self) result };
+}
+
+impl Kind for GeometryType {
+    ghost numbered = { number };
+
+    fn of_type(kind: GeometryType) -> GeometryType {
+        kind
+    }
+
+    fn geometry_type(self) -> Option<GeometryType> {
+        Some(self)
+    }
+}
+
+impl Kind for u8 {
+    ghost numbered = { λ n. n };
+
+    fn of_type(kind: GeometryType) -> u8 {
+        kind.number()
+    }
+
+    fn geometry_type(self) -> Option<GeometryType> {
+        GeometryType::of(self)
+    }
+}
+
+// Whether the members of the type that a byte names lie one level deeper.
+pub fn opens(kind: u8, rules: Rules) -> bool
+    ensures { (type : GeometryType) → kind ≡ number type → result ≡ opens_where rules.deeper type }
+{
+    match GeometryType::of(kind) {
+        Some(kind) => kind.opens(rules),
+        None => false,
     }
 }

@@ -6,5 +6,5 @@ mod geometry_type;
 mod rules;
 
 pub use frame::Frame;
-pub use geometry_type::GeometryType;
+pub use geometry_type::{GeometryType, Kind, opens};
 pub use rules::Rules;

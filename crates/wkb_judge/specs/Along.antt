@@ -9,8 +9,7 @@ use Rattle.nesting.specs.Events.{Event}
 use Rattle.nesting.specs.Machine.{Frame, State, within, start, taken, step}
 use Rattle.nesting.specs.Flat.{read}
 use Rattle.nesting.specs.Levels.{any_depth, sixteen}
-use Rattle.nesting.specs.Taking.{frame_of, Refused}
-use Rattle.nesting.specs.declared.frame.Frame.{Frame as Held}
+use Rattle.nesting.specs.Taking.{Held, frame_of, Refused}
 use Rattle.wkb_written.specs.declared.around.Around.{Around}
 use Rattle.wkb_written.specs.Spelling.{outermost, after, bytes_of, spelled}
 use Rattle.wkb_written.specs.SpellingLaws.{event_bound}

@@ -7,8 +7,7 @@ use Rattle.event_log.specs.Log.{heard, feature_in, record_of}
 use Rattle.nesting.specs.Rules.{limit64}
 use Rattle.nesting.specs.Machine.{Frame, of_pairs, pair_fits}
 use Rattle.nesting.specs.Tests.{five}
-use Rattle.nesting.specs.Taking.{frame_of}
-use Rattle.nesting.specs.declared.frame.Frame.{Frame as Held}
+use Rattle.nesting.specs.Taking.{Held, frame_of}
 use Rattle.wkb_events.specs.Told.{PairIn, Behind}
 use Rattle.wkb_events.specs.Walk.{pairs_on, pairs-moved}
 use Rattle.wkb_judge.specs.Rows.{part_is}

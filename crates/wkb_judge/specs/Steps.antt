@@ -18,8 +18,7 @@ use Rattle.nesting.specs.Levels.{any_depth, sixteen, rules_of_lem}
 use Rattle.nesting.specs.Rules.{Rules}
 use Rattle.nesting.proofs.Sound.{reached_sound}
 use Rattle.nesting.specs.Tests.{five}
-use Rattle.nesting.specs.Taking.{frame_of, ample, begins, begin_goes, begin_stops as begin-refused, Refused}
-use Rattle.nesting.specs.declared.frame.Frame.{Frame as Held}
+use Rattle.nesting.specs.Taking.{Held, frame_of, ample, begins, begin_goes, begin_stops as begin-refused, Refused}
 use Rattle.wkb_written.specs.declared.around.Around.{Around}
 use Rattle.wkb_written.specs.Spelling.{outermost, spelled}
 use Rattle.wkb_written.specs.Writing.{listed, alike, nested, events_in, one_feature}

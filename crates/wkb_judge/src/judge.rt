@@ -6,7 +6,7 @@ ghost use Rattle.wkb_judge.specs.Passing.{SlotOf, LaterOf, PassOf, JudgedOf};
 use crate::pairs::pairs_inside;
 use event_log::EVENT_BYTES;
 use kinds::refusal::Refusal;
-use nesting::Frame;
+use nesting::{Frame, GeometryType};
 use wkb_events::{Told, WKB, Walk, hear};
 
 // How many heights a pass keeps frames of.
@@ -55,9 +55,10 @@ fn judge(events: &[u8], low: usize) -> Result<Walk, Refusal>
 {
     let whole = events.len() / EVENT_BYTES;
     let feature = event_log::feature_in(&events[0..EVENT_BYTES]);
-    let mut top = Frame::OUTSIDE;
+    let outside = Frame::outside();
+    let mut top: Frame<GeometryType> = outside;
     // Any frame would do: a slot is read only where one was kept in it, or where nothing is judged by it.
-    let mut stored = [Frame::OUTSIDE; SLOTS];
+    let mut stored = [outside; SLOTS];
     let mut walk = Walk::START;
     let mut i = 0;
     // No `for`, since the pairs behind a begin are gone past at once.
