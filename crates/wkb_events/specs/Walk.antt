@@ -7,7 +7,7 @@ use Rattle.nesting.specs.declared.geometry_type.GeometryType.TheVariants.{Point,
 use Rattle.nesting.specs.Events.{Event, begin, pair}
 use Rattle.nesting.specs.Levels.{of_geometries, opens_where, all_open}
 use Rattle.wkb_written.specs.declared.around.Around.{Around}
-use Rattle.wkb_written.specs.Spelling.{head_bytes, pair_of, after, begin_bytes, bytes_of}
+use Rattle.wkb_written.specs.Spelling.{outermost, head_bytes, pair_of, after, begin_bytes, bytes_of}
 use Rattle.wkb_events.specs.Course.{deepens}
 use Rattle.wkb_events.specs.declared.walk.Walk.{Walk}
 
@@ -89,3 +89,7 @@ begin-moved w type tagged size idx highest opens around n high o around_is long 
   around = around_is;
   long = ap (λ (n : ℕ). w.length + n) (long ∙ begin-bytes w.around type tagged size);
 }
+
+-- nothing was counted
+abbrev pub started : Walk
+started = record { height = 0; highest = 0; deep = false; around = outermost; length = 0 }

@@ -2,7 +2,7 @@
 ghost use Rattle.std.specs.Prelude.{◌≡◌, Bool, ℕ, ◌+◌, ◌-◌, ◌≤◌, ◌<◌};
 ghost use Rattle.nesting.specs.declared.geometry_type.GeometryType.{GeometryType};
 ghost use Rattle.nesting.specs.Events.{begin, end, pair};
-ghost use Rattle.wkb_events.specs.Walk.{Moved, begin_long, pairs_on};
+ghost use Rattle.wkb_events.specs.Walk.{Moved, begin_long, pairs_on, started};
 
 use nesting::{GeometryType, Rules};
 use wkb_written::Around;
@@ -46,13 +46,17 @@ fn begin_length(kind: GeometryType, bare: bool) -> usize
 
 impl Walk {
     // Nothing was counted.
-    pub const START: Walk = Walk {
-        height: 0,
-        highest: 0,
-        deep: false,
-        around: Around::OUTERMOST,
-        length: 0,
-    };
+    pub fn start() -> Walk
+        ensures { result ≡ started }
+    {
+        Walk {
+            height: 0,
+            highest: 0,
+            deep: false,
+            around: Around::OUTERMOST,
+            length: 0,
+        }
+    }
 
     pub fn pair(self) -> Walk
         requires { self.length < 9223372036854775808 }

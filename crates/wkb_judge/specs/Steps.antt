@@ -24,7 +24,7 @@ use Rattle.wkb_written.specs.Spelling.{outermost, spelled}
 use Rattle.wkb_written.specs.Writing.{listed, alike, nested, events_in, one_feature}
 use Rattle.wkb_events.specs.Course.{reached, closes, course, course_none, nested-course, run-reached}
 use Rattle.wkb_events.specs.Told.{Behind}
-use Rattle.wkb_events.specs.Walk.{Moved}
+use Rattle.wkb_events.specs.Walk.{Moved, started}
 use Rattle.wkb_judge.specs.Rows.{lifted, lifted_self, part_is, whole_records, listed_on, listed_none, alike_off, listed-ends, alike-ends}
 use Rattle.wkb_judge.specs.Passing.{In, SlotOf, RefusedAs, malformed, faulty, Ends, stood, beyond, Passed, LaterOf, later_malformed, later_events}
 use Rattle.wkb_judge.specs.Along.{Shallow, On, Stands, on, off, Along, kept_on, taken_on, refused_on, refused_here, Counted, counted}
@@ -207,10 +207,6 @@ module _ {bytes : List ℕ} {low feature i : ℕ} {w : Walk} {top : Held} {store
           go f (g ∷ fs) o = by-test f g fs o (end_fits f kind tagged idx) refl
 
 -- ---- where it starts
--- nothing was counted
-abbrev pub started : Walk
-started = record { height = 0; highest = 0; deep = false; around = outermost; length = 0 }
-
 pub begun : {bytes : List ℕ} {low feature : ℕ} {w : Walk} {top : Held} {stored : List Held} → w ≡ started → frame_of top ≡ outside 0 → Along bytes low feature 0 w top stored
 begun {bytes} {low} {feature} {w} {top} {stored} e is = subst (λ (w : Walk). Along bytes low feature 0 w top stored) (sym e) (record {
   puts = λ l. l;

@@ -59,7 +59,7 @@ fn judge(events: &[u8], low: usize) -> Result<Walk, Refusal>
     let mut top: Frame<GeometryType> = outside;
     // Any frame would do: a slot is read only where one was kept in it, or where nothing is judged by it.
     let mut stored = [outside; SLOTS];
-    let mut walk = Walk::START;
+    let mut walk = Walk::start();
     let mut i = 0;
     // No `for`, since the pairs behind a begin are gone past at once.
     while i < whole {

@@ -12,7 +12,7 @@ use Rattle.wkb_events.specs.declared.walk.Walk.{Walk}
 use Rattle.wkb_judge.proofs.judge.judge.Goals as goal
 
 pub loop-i-init : goal.loop-i-init
-loop-i-init c = (begun refl (own_is _ _ c.outside-outside.ensures), refl, omega arith, c.feature_in-feature.ensures)
+loop-i-init c = (begun c.start-walk.ensures (own_is _ _ c.outside-outside.ensures), refl, omega arith, c.feature_in-feature.ensures)
 
 pub returns-in_err-told : goal.returns-in_err-told
 returns-in_err-told c =
