@@ -2,7 +2,7 @@
 use Rattle.std.specs.Borrow.{Bor}
 use Rattle.std.specs.Prelude.{◌≡◌, Option as OptionR, Some, None, Result, Bool, ◌&&◌, List, [], ◌∷◌, ℕ, ◌+◌, ◌-◌, ◌*◌, ◌/◌, ◌%◌, ◌<◌, ◌≤◌, min, drop, get_or, ltb}
 use Rattle.std.proofs.Math.Path.{ap}
-use Rattle.std.proofs.Common.{Ok, Err, ◌∙◌, add-one, drop-cons}
+use Rattle.std.proofs.Common.{Ok, Err, sym, ◌∙◌, add-one, drop-cons}
 use Rattle.std.proofs.Math.Bool.{cond}
 use native.Mathlib.Omega.{arith}
 use Rattle.std.proofs.Math.ListN.{length, take, drop_of_length-le, length-drop}
@@ -11,8 +11,10 @@ use Rattle.laws.specs.Script.{Script, Format, stop, say, one, ◌⨟◌}
 use Rattle.kinds.specs.declared.event.Event.{Event}
 use Rattle.kinds.specs.declared.refusal.Refusal.{Refusal}
 use Rattle.kinds.specs.Refusal.{number_of, answer_of}
+use Rattle.coords.specs.declared.lists.Lists.{Lists}
+use Rattle.coords.specs.declared.lists.Window.{Window}
 use Rattle.coords.specs.Coords.{Lanes, dropped, tails, pair_s, coords_s, between_s}
-use Rattle.coords.specs.Views.{list_in, told}
+use Rattle.coords.specs.Views.{list_in, coords_in, window_s, told, Windowed}
 use Rattle.coords.specs.PairLaws.{tails-dropped}
 use Rattle.event_log.specs.declared.log.Log.{Log}
 use Rattle.event_log.specs.Says.{Says}
@@ -102,3 +104,7 @@ module _ (many : Bool) (L : Lanes) (from to : ℕ) {o : OptionR (Bor (List ℕ))
       → answer_of last ≡ cond (ltb from to && ltb (length l.now) (2 * to)) 7 0 → between_s many (list_in o) L from to ≡ coords_s many (dropped from L) (take (end - start) (drop start l.now)) 0 (answer_of last)
   unfolding between_s
   window_some {l} last h k p q e = rw (h, p, q, same_words from to l.now k, e)
+
+-- the window that holds them says what is between two pairs of a record's lists
+pub between_is : (l : Lists) {from to : ℕ} {w : Window} → Windowed l.xy from to w → between_s l.many (list_in l.xy) (coords_in l).lanes from to ≡ window_s (coords_in l) w
+between_is l {w = w} h = h.says l.many (coords_in l).lanes ∙ ap (λ (k : ℕ). coords_s l.many (dropped k (coords_in l).lanes) w.words.now 0 (answer_of w.last)) (sym h.from_is)

@@ -1,5 +1,6 @@
 -- What the code's values stand for.
-use Rattle.std.specs.Prelude.{Option as OptionR, Some, None, Result, List, ℕ}
+use Rattle.std.specs.Prelude.{◌≡◌, ◌≤◌, Option as OptionR, Some, None, Result, Bool, List, ℕ, length}
+use Rattle.std.specs.Option.{ForSome}
 use Rattle.std.specs.Borrow.{Bor}
 use Rattle.std.proofs.Common.{Ok, Err}
 use Rattle.std.proofs.Math.Option.{Option, none, some}
@@ -10,7 +11,7 @@ use Rattle.kinds.specs.declared.refusal.Refusal.TheVariants.{PastList}
 use Rattle.kinds.specs.Refusal.{number_of, answer_of}
 use Rattle.coords.specs.declared.lists.Lists.{Lists}
 use Rattle.coords.specs.declared.lists.Window.{Window}
-use Rattle.coords.specs.Coords.{Value, Absent, Past, Present, Coords, dropped, coords_s}
+use Rattle.coords.specs.Coords.{Value, Absent, Past, Present, Lanes, Coords, dropped, coords_s, between_s}
 
 abbrev pub list_in : {A : Type 0} → OptionR (Bor (List A)) → Option (List A)
 list_in None = none
@@ -37,3 +38,9 @@ told (Err r) k = stop (number_of r)
 -- the pairs of a window
 abbrev pub window_s : Coords → Window → Script Event
 window_s C w = coords_s C.many (dropped w.from C.lanes) w.words.now 0 (answer_of w.last)
+
+-- a window holds the pairs of a list from number `from` to number `to`, whatever stands beside them
+pub record Windowed (xy : OptionR (Bor (List ℕ))) (from to : ℕ) (w : Window) : Type 0 where
+  pub from_is : w.from ≡ from
+  pub within : (most : ℕ) → ForSome xy (λ l. length l.now ≤ most) → length w.words.now ≤ most
+  pub says : (many : Bool) (L : Lanes) → between_s many (list_in xy) L from to ≡ coords_s many (dropped from L) w.words.now 0 (answer_of w.last)

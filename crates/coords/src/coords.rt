@@ -1,8 +1,7 @@
 // The coordinate walk over a stretch of the xy list.
-ghost use Rattle.std.specs.Prelude.{◌≡◌};
+ghost use Rattle.std.specs.Prelude.{◌≤◌, length};
 ghost use Rattle.laws.specs.Framed.{framed};
 ghost use Rattle.kinds.specs.Event.{begin_e, end_e};
-ghost use Rattle.kinds.specs.GeometryType.{number};
 ghost use Rattle.event_log.specs.Says.{Says, of_events};
 ghost use Rattle.coords.specs.Views.{coords_in, window_s};
 
@@ -13,6 +12,7 @@ use event_log::EventLog;
 use kinds::refusal::Refusal;
 
 fn read_coords(lists: &Lists, w: Window, log: &mut EventLog) -> Result<(), Refusal>
+    requires { length w.words.now ≤ 131072 }
     ensures { Says of_events (window_s (coords_in lists.now) w.entry) log.old log.new result }
 {
     let words = w.words;
@@ -35,7 +35,8 @@ pub fn read_window(
     head: Head,
     log: &mut EventLog,
 ) -> Result<(), Refusal>
-    ensures { Says of_events (framed (begin_e (number head.kind) head.tagged size head.idx) (window_s (coords_in lists.now) w.entry) (end_e (number head.kind) head.tagged head.idx)) log.old log.new result }
+    requires { length w.words.now ≤ 131072 }
+    ensures { Says of_events (framed (begin_e head.kind head.tagged size head.idx) (window_s (coords_in lists.now) w.entry) (end_e head.kind head.tagged head.idx)) log.old log.new result }
 {
     log.say(head.begin(size))?;
     read_coords(lists, w, log)?;

@@ -28,5 +28,4 @@ pub struct Window<'a> {
     pub from: u32,
     // What stands after its last pair.
     pub last: Result<(), Refusal>,
-    pub ghost few_words: { length words.now ≤ 131072 },
 }

@@ -1,17 +1,16 @@
 // The stretch of the xy list that a walk goes over: from pair to pair, doubled to words.
-ghost use Rattle.std.specs.Prelude.{◌≡◌, ◌≤◌, ◌<◌};
-ghost use Rattle.coords.specs.Coords.{between_s};
-ghost use Rattle.coords.specs.Views.{coords_in, window_s};
+ghost use Rattle.std.specs.Prelude.{◌≤◌, ◌<◌};
+ghost use Rattle.coords.specs.Views.{Windowed};
 
-use crate::lists::{Lists, Window};
+use crate::lists::Window;
 use kinds::refusal::Refusal;
 
-// The pairs from number `from` to number `to` of a record's, as far as it has them.
-pub fn between<'a>(lists: &Lists<'a>, from: u32, to: u32) -> Window<'a>
+// The pairs from number `from` to number `to` of a list of words, as far as it has them.
+pub fn between<'a>(xy: Option<&'a [u64]>, from: u32, to: u32) -> Window<'a>
     requires { (from ≤ to) × (to < 2147483648) }
-    ensures { let C = coords_in lists.now in between_s C.many C.xy C.lanes from to ≡ window_s C result }
+    ensures { Windowed xy.entry from to result }
 {
-    let Some(xy) = lists.xy else {
+    let Some(xy) = xy else {
         return Window {
             words: &[],
             from,

@@ -1,6 +1,5 @@
 // Lines of a record: a stretch from each end to the next, or the whole list as one; a Polygon and a MultiLineString of them.
 ghost use Rattle.std.specs.Prelude.{◌≡◌, cond, not, ◌&&◌, leb, length, is_some};
-ghost use Rattle.kinds.specs.GeometryType.{number};
 ghost use Rattle.event_log.specs.Says.{Says, of_events};
 ghost use Rattle.coords.specs.Views.{coords_in};
 ghost use Rattle.lines.specs.Lines.{bad_end, stretches, stretch_s, lines_s, flat_s, rings_s, stretches_s, multi_line_s};
@@ -45,11 +44,17 @@ pub fn read_multilinestring_part(
         return Err(Refusal::BadEnd);
     }
     let line = Head {
-        kind: GeometryType::LineString,
+        kind: GeometryType::LineString.number(),
         tagged: false,
         idx,
     };
-    read_window(lists, between(lists, before, end), end - before, line, log)
+    read_window(
+        lists,
+        between(lists.xy, before, end),
+        end - before,
+        line,
+        log,
+    )
 }
 
 fn read_lines(lists: &Lists, log: &mut EventLog) -> Result<(), Refusal>
@@ -66,7 +71,7 @@ fn read_lines(lists: &Lists, log: &mut EventLog) -> Result<(), Refusal>
 
 // The whole list as one line: a LineString, a MultiPoint, a CircularString, a ring.
 pub fn read_line(lists: &Lists, head: Head, log: &mut EventLog) -> Result<(), Refusal>
-    ensures { Says of_events (flat_s (coords_in lists.now) (number head.kind) head.tagged head.idx) log.old log.new result }
+    ensures { Says of_events (flat_s (coords_in lists.now) head.kind head.tagged head.idx) log.old log.new result }
 {
     let Some(words) = lists.xy else {
         return Err(Refusal::XyAbsent);
@@ -85,7 +90,7 @@ fn read_rings(lists: &Lists, log: &mut EventLog) -> Result<(), Refusal>
 {
     if lists.ends.len() <= 1 {
         let line = Head {
-            kind: GeometryType::LineString,
+            kind: GeometryType::LineString.number(),
             tagged: false,
             idx: 0,
         };
@@ -97,7 +102,7 @@ fn read_rings(lists: &Lists, log: &mut EventLog) -> Result<(), Refusal>
 
 // read_polygon, and whatever else is a begin, lines and an end.
 pub fn read_stretches(lists: &Lists, head: Head, log: &mut EventLog) -> Result<(), Refusal>
-    ensures { Says of_events (stretches_s (number head.kind) head.tagged head.idx (coords_in lists.now) lists.now.ends.now) log.old log.new result }
+    ensures { Says of_events (stretches_s head.kind head.tagged head.idx (coords_in lists.now) lists.now.ends.now) log.old log.new result }
 {
     log.say(head.begin(stretches(lists)))?;
     read_rings(lists, log)?;
@@ -111,7 +116,7 @@ pub fn read_multilinestring(lists: &Lists, idx: u32, log: &mut EventLog) -> Resu
         return Ok(());
     }
     let head = Head {
-        kind: GeometryType::MultiLineString,
+        kind: GeometryType::MultiLineString.number(),
         tagged: false,
         idx,
     };

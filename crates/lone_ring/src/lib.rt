@@ -34,7 +34,7 @@ fn read_lone_line(ring: Ring, log: &mut EventLog) -> Result<(), Refusal>
     ensures { Says of_events (flat_s (lone_coords ring.entry.xy.now) 2 false 0) log.old log.new result }
 {
     let head = Head {
-        kind: GeometryType::LineString,
+        kind: GeometryType::LineString.number(),
         tagged: false,
         idx: 0,
     };
@@ -48,7 +48,7 @@ pub fn read_lone_ring(ring: Ring, idx: u32, log: &mut EventLog) -> Result<(), Re
     ensures { Says of_events (stretches_s 3 false idx (lone_coords ring.entry.xy.now) []) log.old log.new result }
 {
     let head = Head {
-        kind: GeometryType::Polygon,
+        kind: GeometryType::Polygon.number(),
         tagged: false,
         idx,
     };

@@ -74,15 +74,15 @@ fn read_lists(lists: &Lists, own: Own, idx: u32, log: &mut EventLog) -> Result<(
     match own {
         Own::Point => {
             let point = Head {
-                kind: GeometryType::Point,
+                kind: GeometryType::Point.number(),
                 tagged: false,
                 idx,
             };
-            read_window(lists, between(lists, 0, 1), 0, point, log)
+            read_window(lists, between(lists.xy, 0, 1), 0, point, log)
         }
         Own::LineString { tagged } => {
             let line = Head {
-                kind: GeometryType::LineString,
+                kind: GeometryType::LineString.number(),
                 tagged,
                 idx,
             };
@@ -90,7 +90,7 @@ fn read_lists(lists: &Lists, own: Own, idx: u32, log: &mut EventLog) -> Result<(
         }
         Own::MultiPoint => {
             let points = Head {
-                kind: GeometryType::MultiPoint,
+                kind: GeometryType::MultiPoint.number(),
                 tagged: false,
                 idx,
             };
@@ -98,7 +98,7 @@ fn read_lists(lists: &Lists, own: Own, idx: u32, log: &mut EventLog) -> Result<(
         }
         Own::CircularString => {
             let line = Head {
-                kind: GeometryType::CircularString,
+                kind: GeometryType::CircularString.number(),
                 tagged: false,
                 idx,
             };
@@ -106,7 +106,7 @@ fn read_lists(lists: &Lists, own: Own, idx: u32, log: &mut EventLog) -> Result<(
         }
         Own::Polygon { tagged } => {
             let polygon = Head {
-                kind: GeometryType::Polygon,
+                kind: GeometryType::Polygon.number(),
                 tagged,
                 idx,
             };

@@ -62,7 +62,7 @@ fn read_geometrycollection(
         return Err(Refusal::Missing);
     };
     let head = Head {
-        kind,
+        kind: kind.number(),
         tagged: false,
         idx,
     };

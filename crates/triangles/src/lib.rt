@@ -23,7 +23,7 @@ fn read_triangle_at(
     ensures { Says of_events (triangle_at (coords_in lists.now) tagged before end idx) log.old log.new result }
 {
     let head = Head {
-        kind: GeometryType::Triangle,
+        kind: GeometryType::Triangle.number(),
         tagged,
         idx,
     };
@@ -57,7 +57,7 @@ pub fn read_triangle(
     }
     if lists.ends.len() <= 1 {
         let head = Head {
-            kind: GeometryType::Triangle,
+            kind: GeometryType::Triangle.number(),
             tagged,
             idx,
         };
@@ -71,7 +71,7 @@ pub fn read_tin(lists: &Lists, idx: u32, log: &mut EventLog) -> Result<(), Refus
     ensures { Says of_events (tin_s (coords_in lists.now) lists.now.ends.now idx) log.old log.new result }
 {
     let head = Head {
-        kind: GeometryType::Tin,
+        kind: GeometryType::Tin.number(),
         tagged: false,
         idx,
     };

@@ -44,6 +44,26 @@ pub record WalkOf (kind stored : ℕ) (walk : Result Walk Refusal) : Type 0 wher
   pub type_is : TypeOf kind type
   pub walk_is : walk ≡ walk_named type stored
 
+-- the same by the byte
+unfoldable pub walk_of : ℕ → ℕ → Result Walk Refusal
+walk_of type stored =
+    cond (eqb type 1) (Ok (Own Point))
+    (cond (eqb type 2) (Ok (Own (LineString true)))
+    (cond (eqb type 3) (Ok (Own (Polygon true)))
+    (cond (eqb type 4) (Ok (Own MultiPoint))
+    (cond (eqb type 5) (Ok (Own MultiLineString))
+    (cond (eqb type 6) (Ok (Parts MultiPolygon AsPolygon))
+    (cond (eqb type 15) (Ok (Parts PolyhedralSurface AsPolygon))
+    (cond (eqb type 7) (Ok (Parts GeometryCollection AnyGeometry))
+    (cond (eqb type 8) (Ok (Own CircularString))
+    (cond (eqb type 9) (Ok (Parts CompoundCurve (Curve stored)))
+    (cond (eqb type 10) (Ok (Parts CurvePolygon (Curve stored)))
+    (cond (eqb type 11) (Ok (Parts MultiCurve (Curve stored)))
+    (cond (eqb type 12) (Ok (Parts MultiSurface (Curve stored)))
+    (cond (eqb type 16) (Ok (Own Tin))
+    (cond (eqb type 17) (Ok (Own Triangle))
+    (Err TypeUnknown)))))))))))))))
+
 -- the type rules of read_curve
 unfoldable pub curve_walk : ℕ → ℕ → Result Walk Refusal
 curve_walk above kind =
@@ -57,3 +77,8 @@ abbrev pub WalkIn : Role → ℕ → Result Walk Refusal → Type 0
 WalkIn AnyGeometry kind walk = WalkOf kind kind walk
 WalkIn AsPolygon kind walk = walk ≡ Ok (Own (Polygon false))
 WalkIn (Curve above) kind walk = walk ≡ curve_walk above kind
+
+abbrev pub walk_in : Role → ℕ → Result Walk Refusal
+walk_in AnyGeometry kind = walk_of kind kind
+walk_in AsPolygon kind = Ok (Own (Polygon false))
+walk_in (Curve above) kind = curve_walk above kind

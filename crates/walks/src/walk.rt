@@ -1,6 +1,6 @@
 // Which walk a record takes, by its type and by what it is a part of.
 ghost use Rattle.std.specs.Prelude.{◌≡◌};
-ghost use Rattle.walks.specs.Walks.{walk_under, curve_walk, WalkOf, WalkIn};
+ghost use Rattle.walks.specs.Walks.{walk_under, walk_of, curve_walk, walk_in, WalkOf, WalkIn};
 
 use kinds::geometry_type;
 use kinds::geometry_type::GeometryType;
@@ -59,7 +59,8 @@ fn walk_under(kind: GeometryType, stored: u8) -> Result<Walk, Refusal>
 
 // The walk of a record under the type of a number.
 pub fn walk_of(kind: u8, stored: u8) -> Result<Walk, Refusal>
-    ensures { WalkOf kind stored result }
+    ensures typed { WalkOf kind stored result }
+    ensures is { result ≡ walk_of kind stored }
 {
     match GeometryType::try_from(kind) {
         Ok(kind) => walk_under(kind, stored),
@@ -107,7 +108,8 @@ fn curve_walk(above: u8, kind: u8) -> Result<Walk, Refusal>
 
 // The walk of a part in its role.
 pub fn walk_in(role: Role, kind: u8) -> Result<Walk, Refusal>
-    ensures { WalkIn role kind result }
+    ensures typed { WalkIn role kind result }
+    ensures is { result ≡ walk_in role kind }
 {
     match role {
         Role::Geometry => walk_of(kind, kind),

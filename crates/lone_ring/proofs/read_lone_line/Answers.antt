@@ -7,12 +7,12 @@ use Rattle.lone_ring.proofs.read_lone_line.Goals as goal
 pub returns-in_err-say : goal.returns-in_err-say
 returns-in_err-say c =
     let p = err_from_is_err_and c.from_residual.result c.from_residual.ensures.1 in
-    rw (p.1, p.2, lone_line c.args.ring.xy.now) (no_begin of_events _ _ c.begin.ensures c.in_err-say.ensures)
+    rw (p.1, p.2, lone_line c.args.ring.xy.now) (no_begin of_events _ _ (rw c.number.ensures.is at c.begin.ensures) c.in_err-say.ensures)
 
 pub returns-in_err-read_lone_pairs : goal.returns-in_err-read_lone_pairs
 returns-in_err-read_lone_pairs c =
     let p = err_from_is_err_and c.from_residual-in_err-read_lone_pairs.result c.from_residual-in_err-read_lone_pairs.ensures.1 in
-    rw (p.1, p.2, lone_line c.args.ring.xy.now) (no_body of_events _ c.begin.ensures c.in_ok-say.ensures c.in_err-read_lone_pairs.ensures)
+    rw (p.1, p.2, lone_line c.args.ring.xy.now) (no_body of_events _ (rw c.number.ensures.is at c.begin.ensures) c.in_ok-say.ensures c.in_err-read_lone_pairs.ensures)
 
 pub returns : goal.returns
-returns c = rw (lone_line c.args.ring.xy.now) (whole_frame of_events c.begin.ensures c.in_ok-say.ensures c.in_ok-read_lone_pairs.ensures c.end.ensures c.say-2.ensures)
+returns c = rw (lone_line c.args.ring.xy.now) (whole_frame of_events (rw c.number.ensures.is at c.begin.ensures) c.in_ok-say.ensures c.in_ok-read_lone_pairs.ensures (rw c.number.ensures.is at c.end.ensures) c.say-2.ensures)

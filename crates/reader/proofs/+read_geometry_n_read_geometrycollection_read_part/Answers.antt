@@ -29,13 +29,13 @@ pub read_geometrycollection-returns-in_err-say : goal.read_geometrycollection-re
 read_geometrycollection-returns-in_err-say t c =
     let a = c.args in
     let p = err_from_is_err_and c.from_residual.result c.from_residual.ensures.1 in
-    rw (p.1, p.2, span_there (part_s a.flags a.role a.levels (record_with a.store.now.table.now (pools_in a.store.now.pools))) (number a.kind) a.idx c.in-Some.is) (no_begin of_events _ _ c.begin.ensures c.in_err-say.ensures)
+    rw (p.1, p.2, ← c.number.ensures.is, span_there (part_s a.flags a.role a.levels (record_with a.store.now.table.now (pools_in a.store.now.pools))) c.number.result a.idx c.in-Some.is) (no_begin of_events _ _ c.begin.ensures c.in_err-say.ensures)
 
 pub read_geometrycollection-returns-in_err-read_part : goal.read_geometrycollection-returns-in_err-read_part
 read_geometrycollection-returns-in_err-read_part t c =
     let a = c.args in
     let p = err_from_is_err_and c.from_residual-in_err-read_part.result c.from_residual-in_err-read_part.ensures.1 in
-    rw (p.1, p.2, span_there (part_s a.flags a.role a.levels (record_with a.store.now.table.now (pools_in a.store.now.pools))) (number a.kind) a.idx c.in-Some.is)
+    rw (p.1, p.2, ← c.number.ensures.is, span_there (part_s a.flags a.role a.levels (record_with a.store.now.table.now (pools_in a.store.now.pools))) c.number.result a.idx c.in-Some.is)
     (framed_by of_events _ _ c.begin.ensures c.in_ok-say.ensures (breaks-off of_events _ _ c.loop-i.invariant (parts-step _ _ _ c.loop-i-test.true) c.in_err-read_part.ensures))
 
 pub read_geometrycollection-loop-i-preserved : goal.read_geometrycollection-loop-i-preserved
@@ -44,7 +44,7 @@ read_geometrycollection-loop-i-preserved t c = goes-on of_events _ _ c.loop-i.in
 pub read_geometrycollection-returns : goal.read_geometrycollection-returns
 read_geometrycollection-returns t c =
     let a = c.args in
-    rw (span_there (part_s a.flags a.role a.levels (record_with a.store.now.table.now (pools_in a.store.now.pools))) (number a.kind) a.idx c.in-Some.is)
+    rw (← c.number.ensures.is, span_there (part_s a.flags a.role a.levels (record_with a.store.now.table.now (pools_in a.store.now.pools))) c.number.result a.idx c.in-Some.is)
     (framed_by of_events _ _ c.begin.ensures c.in_ok-say.ensures (ends of_events c.loop-i.invariant (parts-over _ _ _ c.loop-i-test.false) (rw c.end.ensures at c.say-2.ensures)))
 
 -- ---- a part
@@ -69,7 +69,7 @@ read_part-returns-in_err-walk t c =
     let a = c.args in
     let P = pools_in a.store.now.pools in
     let p = err_from_is_err_and c.from_residual.result c.from_residual.ensures.1 in
-    rw (p.1, p.2, part_good a.flags a.role a.levels (record_with a.store.now.table.now P) a.n a.idx c.if-levels-eq0.false (lists_of P c.in-Some-record.g) (good_record a.store.now.table.now P a.n c.record.ensures c.in-Some-record.is) (Err c.in_err-walk.field-0.0) c.in_err-walk.ensures)
+    rw (p.1, p.2, part_good a.flags a.role a.levels (record_with a.store.now.table.now P) a.n a.idx c.if-levels-eq0.false (lists_of P c.in-Some-record.g) (good_record a.store.now.table.now P a.n c.record.ensures c.in-Some-record.is) (Err c.in_err-walk.field-0.0) c.in_err-walk.ensures.typed)
     (refuses of_events _ _)
 
 pub read_part-read_geometry_n-requires : goal.read_part-read_geometry_n-requires
@@ -81,5 +81,5 @@ pub read_part-returns : goal.read_part-returns
 read_part-returns t c =
     let a = c.args in
     let P = pools_in a.store.now.pools in
-    rw (part_good a.flags a.role a.levels (record_with a.store.now.table.now P) a.n a.idx c.if-levels-eq0.false (lists_of P c.in-Some-record.g) (good_record a.store.now.table.now P a.n c.record.ensures c.in-Some-record.is) (Ok c.in_ok-walk.walk) c.in_ok-walk.ensures)
+    rw (part_good a.flags a.role a.levels (record_with a.store.now.table.now P) a.n a.idx c.if-levels-eq0.false (lists_of P c.in-Some-record.g) (good_record a.store.now.table.now P a.n c.record.ensures c.in-Some-record.is) (Ok c.in_ok-walk.walk) c.in_ok-walk.ensures.typed)
     c.read_geometry_n.ensures

@@ -2,7 +2,6 @@
 use Rattle.std.proofs.Common.{◌+◌, ◌-◌, ◌*◌, false}
 use Rattle.laws.specs.Script.{one, ◌⨟◌}
 use Rattle.kinds.specs.Event.{end_e}
-use Rattle.kinds.specs.GeometryType.{number}
 use Rattle.store.specs.Lists.{pools_in, record_with}
 use Rattle.event_log.specs.Says.{Going, of_events}
 use Rattle.reader.specs.Reading.{parts_s}
@@ -21,6 +20,6 @@ decreases-read_part l = 4 * l.levels
 abbrev pub invariant-read_geometrycollection-loop-i : goal.invariant-read_geometrycollection-loop-i
 invariant-read_geometrycollection-loop-i l =
     Going of_events
-    (parts_s (part_s l.flags l.role l.levels (record_with l.store.table.now (pools_in l.store.pools))) l.count l.start 0 ⨟ one (end_e (number l.head.kind) false l.idx))
-    (parts_s (part_s l.flags l.role l.levels (record_with l.store.table.now (pools_in l.store.pools))) (l.count - l.i) (l.start + l.i) l.i ⨟ one (end_e (number l.head.kind) false l.idx))
+    (parts_s (part_s l.flags l.role l.levels (record_with l.store.table.now (pools_in l.store.pools))) l.count l.start 0 ⨟ one (end_e l.head.kind false l.idx))
+    (parts_s (part_s l.flags l.role l.levels (record_with l.store.table.now (pools_in l.store.pools))) (l.count - l.i) (l.start + l.i) l.i ⨟ one (end_e l.head.kind false l.idx))
     l.initial.log l.log

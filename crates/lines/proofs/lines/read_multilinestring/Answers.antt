@@ -7,4 +7,4 @@ pub returns-then-nothing_there : goal.returns-then-nothing_there
 returns-then-nothing_there c = let a = c.args in rw (multi_nothing a.lists.now c.nothing_there.ensures a.idx c.if-nothing_there.true) (nothing of_events _)
 
 pub returns : goal.returns
-returns c = let a = c.args in rw (multi_some a.lists.now c.nothing_there.ensures a.idx c.if-nothing_there.false) c.read_stretches.ensures
+returns c = let a = c.args in rw (multi_some a.lists.now c.nothing_there.ensures a.idx c.if-nothing_there.false) (rw c.number.ensures.is at c.read_stretches.ensures)

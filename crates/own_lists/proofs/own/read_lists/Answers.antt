@@ -1,26 +1,30 @@
+use Rattle.coords.specs.CoordLaws.{between_is}
 use Rattle.lines.specs.Lines.{point_s}
 use Rattle.own_lists.specs.Own.{own_s}
 use Rattle.own_lists.proofs.own.read_lists.Goals as goal
 
+pub read_window-requires : goal.read_window-requires
+read_window-requires c = c.between.ensures.within 131072 c.args.lists.now.few_words
+
 pub returns-in-Point : goal.returns-in-Point
 unfolding own_s point_s
-returns-in-Point c = rw (c.in-Point.is, c.between.ensures) c.read_window.ensures
+returns-in-Point c = rw (c.in-Point.is, between_is c.args.lists.now c.between.ensures) (rw c.number.ensures.is at c.read_window.ensures)
 
 pub returns-in-LineString : goal.returns-in-LineString
 unfolding own_s
-returns-in-LineString c = rw c.in-LineString.is c.read_line.ensures
+returns-in-LineString c = rw c.in-LineString.is (rw c.number-in-LineString.ensures.is at c.read_line.ensures)
 
 pub returns-in-MultiPoint : goal.returns-in-MultiPoint
 unfolding own_s
-returns-in-MultiPoint c = rw c.in-MultiPoint.is c.read_line-in-MultiPoint.ensures
+returns-in-MultiPoint c = rw c.in-MultiPoint.is (rw c.number-in-MultiPoint.ensures.is at c.read_line-in-MultiPoint.ensures)
 
 pub returns-in-CircularString : goal.returns-in-CircularString
 unfolding own_s
-returns-in-CircularString c = rw c.in-CircularString.is c.read_line-in-CircularString.ensures
+returns-in-CircularString c = rw c.in-CircularString.is (rw c.number-in-CircularString.ensures.is at c.read_line-in-CircularString.ensures)
 
 pub returns-in-Polygon : goal.returns-in-Polygon
 unfolding own_s
-returns-in-Polygon c = rw c.in-Polygon.is c.read_stretches.ensures
+returns-in-Polygon c = rw c.in-Polygon.is (rw c.number-in-Polygon.ensures.is at c.read_stretches.ensures)
 
 pub returns-in-MultiLineString : goal.returns-in-MultiLineString
 unfolding own_s
