@@ -1,14 +1,15 @@
 -- The coordinate walk, unrolled by one turn of the loop that says it, and the windows that it walks.
 use Rattle.std.specs.Borrow.{Bor}
-use Rattle.std.specs.Prelude.{◌≡◌, Option as OptionR, Some, None, Result, Bool, ◌&&◌, List, [], ◌∷◌, ℕ, ◌+◌, ◌-◌, ◌*◌, ◌/◌, ◌%◌, ◌<◌, ◌≤◌, min, drop, get_or, ltb}
+use Rattle.std.specs.Prelude.{◌≡◌, refl, Option as OptionR, Some, None, Result, Bool, ◌&&◌, List, [], ◌∷◌, ℕ, ◌+◌, ◌-◌, ◌*◌, ◌/◌, ◌%◌, ◌<◌, ◌≤◌, min, drop, get_or, ltb}
 use Rattle.std.proofs.Math.Path.{ap}
 use Rattle.std.proofs.Common.{Ok, Err, sym, ◌∙◌, add-one, drop-cons}
-use Rattle.std.proofs.Math.Bool.{cond}
+use Rattle.std.proofs.Math.Bool.{false, cond}
 use native.Mathlib.Omega.{arith}
 use Rattle.std.proofs.Math.ListN.{length, take, drop_of_length-le, length-drop}
 use Rattle.std.proofs.Math.Seq.{take_all, take-nil}
 use Rattle.laws.specs.Script.{Script, Format, stop, say, one, ◌⨟◌}
 use Rattle.kinds.specs.declared.event.Event.{Event}
+use Rattle.kinds.specs.Event.{xy_e}
 use Rattle.kinds.specs.declared.refusal.Refusal.{Refusal}
 use Rattle.kinds.specs.Refusal.{number_of, answer_of}
 use Rattle.coords.specs.declared.lists.Lists.{Lists}
@@ -17,6 +18,7 @@ use Rattle.coords.specs.Coords.{Lanes, dropped, tails, pair_s, coords_s, between
 use Rattle.coords.specs.Views.{list_in, coords_in, window_s, told, Windowed}
 use Rattle.coords.specs.PairLaws.{tails-dropped}
 use Rattle.event_log.specs.declared.log.Log.{Log}
+use Rattle.event_log.specs.Pairs.{xy_s, xy-then}
 use Rattle.event_log.specs.Says.{Says}
 use Rattle.event_log.specs.SaysLaws.{nothing, refuses}
 use Rattle.std.proofs.Math.Decide.{dec_le}
@@ -70,6 +72,16 @@ module _ (many : Bool) (L : Lanes) (l : List ℕ) (from last i : ℕ) where
         two ∙ says _
         ∙ ap (λ (L' : Lanes). say e (coords_s many L' (drop (2 * i + 2) l) (i + 1) last)) (tails-dropped (from + i) L ∙ ap (λ (k : ℕ). dropped k L) n)
         ∙ ap (λ (j : ℕ). say e (coords_s many (dropped (from + (i + 1)) L) (drop j l) (i + 1) last)) d
+
+-- ---- with no flag set
+pub plain-pairs : (L : Lanes) (l : List ℕ) (idx last : ℕ) → coords_s false L l idx last ≡ xy_s l idx last
+unfolding coords_s pair_s xy_s
+plain-pairs L [] idx last = refl
+plain-pairs L (x ∷ []) idx last = refl
+plain-pairs L (x ∷ (y ∷ l)) idx last = ap (λ (s : Script Event). say (xy_e x y idx) s) (plain-pairs (tails L) l (idx + 1) last)
+
+pub plain-then : {many : Bool} (L : Lanes) (l : List ℕ) (last : ℕ) → many ≡ false → coords_s many L l 0 last ≡ xy_s l 0 0 ⨟ stop last
+plain-then L l last h = rw h (plain-pairs L l 0 last ∙ xy-then l 0 last)
 
 -- an answer alone
 pub answers : {L : Type 0} (format : L → Format Event) (r : Result Unit Refusal) (a : Log L) → Says format (stop (answer_of r)) a a r

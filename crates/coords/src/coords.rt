@@ -11,7 +11,8 @@ use crate::pairs::read_pair;
 use event_log::EventLog;
 use kinds::refusal::Refusal;
 
-fn read_coords(lists: &Lists, w: Window, log: &mut EventLog) -> Result<(), Refusal>
+// Pairs with what stands beside them.
+fn read_many(lists: &Lists, w: Window, log: &mut EventLog) -> Result<(), Refusal>
     requires { length w.words.now ≤ 131072 }
     ensures { Says of_events (window_s (coords_in lists.now) w.entry) log.old log.new result }
 {
@@ -24,6 +25,18 @@ fn read_coords(lists: &Lists, w: Window, log: &mut EventLog) -> Result<(), Refus
     if words.len() % 2 != 0 {
         return Err(Refusal::PastList);
     }
+    w.last
+}
+
+// Where no flag is set, pairs alone are said, which asks nothing of the other lists at any of them.
+fn read_coords(lists: &Lists, w: Window, log: &mut EventLog) -> Result<(), Refusal>
+    requires { length w.words.now ≤ 131072 }
+    ensures { Says of_events (window_s (coords_in lists.now) w.entry) log.old log.new result }
+{
+    if lists.many {
+        return read_many(lists, w, log);
+    }
+    log.say_pairs(w.words)?;
     w.last
 }
 

@@ -4,3 +4,4 @@ pub mod LogLaws
 pub mod Values
 pub mod Says
 pub mod SaysLaws
+pub mod Pairs

@@ -1,8 +1,11 @@
 // A log that is being written: records one after the other, in lent memory.
-ghost use Rattle.std.specs.Prelude.{◌≡◌, ◌<◌, length};
+ghost use Rattle.std.specs.Prelude.{◌≡◌, ◌<◌, ◌≤◌, length};
 ghost use Rattle.laws.specs.Script.{Format, one, room_at};
-ghost use Rattle.event_log.specs.Says.{Says};
+ghost use Rattle.event_log.specs.Pairs.{xy_s};
+ghost use Rattle.event_log.specs.Says.{Says, of_events};
 
+use crate::layouts::Events;
+use kinds::event::Event;
 use kinds::refusal::Refusal;
 use kinds::usable;
 
@@ -66,7 +69,9 @@ impl<'a, L: Layout> Log<'a, L> {
         (self.count < usable::LOG_RECORDS) & (self.count < self.bytes.len() / self.layout.wide())
     }
 
-    // Writes the next record.
+    // Writes the next record. It stands in the loop that says one record after the other: as a call of its own, LLVM hands it each record
+    // through memory.
+    #[inline(always)]
     pub fn say(&mut self, item: L::Item) -> Result<(), Refusal>
         ensures { Says L.format (one item) self.old self.new result }
     {
@@ -80,4 +85,34 @@ impl<'a, L: Layout> Log<'a, L> {
         self.count += 1;
         Ok(())
     }
+}
+
+impl<'a> Log<'a, Events> {
+    // Says the pairs of a list, numbered from 0. Meanwhile the log stands in a value of its own, so that the loop has its count in a register.
+    pub fn say_pairs(&mut self, words: &[u64]) -> Result<(), Refusal>
+        requires { length words.now ≤ 131072 }
+        ensures { Says of_events (xy_s words.now 0 0) self.old self.new result }
+    {
+        let mut log = Log {
+            bytes: &mut *self.bytes,
+            layout: self.layout,
+            count: self.count,
+        };
+        let said = say_each(words, &mut log);
+        self.count = log.count;
+        said
+    }
+}
+
+fn say_each(words: &[u64], log: &mut Log<Events>) -> Result<(), Refusal>
+    requires { length words.now ≤ 131072 }
+    ensures { Says of_events (xy_s words.now 0 0) log.old log.new result }
+{
+    for i in 0..words.len() / 2 {
+        log.say(Event::xy(words[2 * i], words[2 * i + 1], i as u32))?;
+    }
+    if words.len() % 2 != 0 {
+        return Err(Refusal::PastList);
+    }
+    Ok(())
 }

@@ -13,7 +13,8 @@ use Rattle.store.specs.Lists.{Pools, lists_of}
 use Rattle.geometries.specs.Coordinate.{multi}
 use Rattle.coords.specs.Coords.{Lanes, Coords, seen, coords_of, pair_s, coords_s}
 use Rattle.lines.specs.Lines.{flat_o, flat_s, rings_s, stretches_s}
-use Rattle.coords.specs.CoordLaws.{coords_end, coords_odd, coords_two}
+use Rattle.coords.specs.CoordLaws.{plain-pairs}
+use Rattle.event_log.specs.Pairs.{xy_s}
 
 abbrev pub no_lanes : Lanes
 no_lanes = record { z = none; m = none; t = none; tm = none }
@@ -38,19 +39,9 @@ lone_coords_lem F P kind start count plain =
       lanes = record { z = unseen F.z i; m = unseen F.m i; t = unseen F.t i; tm = unseen F.tm i };
     }
 
--- ---- the pairs from number i on, by one turn of the loop that says them
-module _ (l : List ℕ) (i : ℕ) where
-  pub lone_over : length l / 2 ≤ i → length l % 2 ≡ 0 → lone_s (drop (2 * i) l) i ≡ stop 0
-  lone_over h e = coords_end false no_lanes l (2 * i) i 0 (omega arith)
-
-  pub lone_odd : i ≡ length l / 2 → (length l % 2 ≡ 0 → ⊥) → lone_s (drop (2 * i) l) i ≡ stop 7
-  lone_odd h e = coords_odd false no_lanes l (2 * i) i 0 (omega arith) (omega arith)
-
-  pub lone_next : (e : Event) → i < length l / 2 → e ≡ xy_e (get_or l (2 * i) 0) (get_or l (2 * i + 1) 0) i → lone_s (drop (2 * i) l) i ≡ one e ⨟ lone_s (drop (2 * (i + 1)) l) (i + 1)
-  unfolding pair_s ◌⨟◌
-  lone_next e h is =
-      let d : 2 * (i + 1) ≡ 2 * i + 2 = omega arith in
-      rw (is, d, coords_two false no_lanes l (2 * i) i 0 (omega arith))
+-- ---- the pairs, as a log says them
+pub lone-said : (l : List ℕ) → lone_s l 0 ≡ xy_s l 0 0
+lone-said l = plain-pairs no_lanes l 0 0
 
 -- ---- a begin, the pairs, an end; and around them the polygon's
 pub lone_line : (l : List ℕ) → flat_s (lone_coords l) 2 false 0 ≡ framed (begin_e 2 false (length l / 2) 0) (lone_s l 0) (end_e 2 false 0)

@@ -11,7 +11,6 @@ mod ring;
 
 use coords::Head;
 use event_log::EventLog;
-use kinds::event::Event;
 use kinds::geometry_type::GeometryType;
 use kinds::refusal::Refusal;
 pub use ring::Ring;
@@ -19,14 +18,7 @@ pub use ring::Ring;
 fn read_lone_pairs(ring: Ring, log: &mut EventLog) -> Result<(), Refusal>
     ensures { Says of_events (lone_s ring.entry.xy.now 0) log.old log.new result }
 {
-    let xy = ring.xy;
-    for i in 0..xy.len() / 2 {
-        log.say(Event::xy(xy[2 * i], xy[2 * i + 1], i as u32))?;
-    }
-    if xy.len() % 2 != 0 {
-        return Err(Refusal::PastList);
-    }
-    Ok(())
+    log.say_pairs(ring.xy)
 }
 
 // The whole list as one line.

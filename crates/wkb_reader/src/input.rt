@@ -10,7 +10,9 @@ pub struct Input<'a> {
     pub left: &'a [u8],
 }
 
+// Each field is taken where it is asked for: as calls, Rattle's own compiler hands the rest of the bytes on through memory.
 impl<'a> Input<'a> {
+    #[inline(always)]
     pub fn byte(&mut self) -> Result<u8, Refusal>
         ensures { FieldIs Order.Little 1 self.old self.new result }
     {
@@ -21,6 +23,7 @@ impl<'a> Input<'a> {
         Ok(*byte)
     }
 
+    #[inline(always)]
     pub fn u32(&mut self, order: Order) -> Result<u32, Refusal>
         ensures { FieldIs order 4 self.old self.new result }
     {
@@ -31,6 +34,7 @@ impl<'a> Input<'a> {
         Ok(wkb::u32_at(field, 0, order))
     }
 
+    #[inline(always)]
     pub fn u64(&mut self, order: Order) -> Result<u64, Refusal>
         ensures { FieldIs order 8 self.old self.new result }
     {

@@ -26,6 +26,7 @@ pub struct Rings {
 impl Things for Pairs {
     ghost thing = { λ p. pair_r p.order };
 
+    #[inline(always)]
     fn read(&self, idx: u32, input: &mut Input, log: &mut EventLog) -> Result<(), Refusal> {
         let x = input.u64(self.order)?;
         let y = input.u64(self.order)?;

@@ -1,0 +1,22 @@
+use Rattle.std.proofs.Common.{arith, ◌≡◌, ◌/◌, length}
+use Rattle.std.proofs.lemmas.Result.{err_from_is_err_and}
+use Rattle.event_log.specs.Says.{of_events}
+use Rattle.event_log.specs.SaysLaws.{nothing, refuses, goes-on, ends, breaks-off}
+use Rattle.event_log.specs.Pairs.{xy_over, xy_odd, xy_next}
+use Rattle.event_log.proofs.log.say_each.Goals as goal
+
+pub returns-in_err-say : goal.returns-in_err-say
+returns-in_err-say c =
+    let p = err_from_is_err_and c.from_residual.result c.from_residual.ensures.1 in
+    rw (p.1, p.2) (breaks-off of_events _ _ c.loop-i.invariant (xy_next c.args.words.now c.loop-i.i c.xy.result c.loop-i-test.true c.xy.ensures) c.in_err-say.ensures)
+
+pub loop-i-preserved : goal.loop-i-preserved
+loop-i-preserved c = goes-on of_events _ _ c.loop-i.invariant (xy_next c.args.words.now c.loop-i.i c.xy.result c.loop-i-test.true c.xy.ensures) c.in_ok-say.ensures
+
+pub returns-then-words-ne0 : goal.returns-then-words-ne0
+returns-then-words-ne0 c =
+    let k : c.loop-i.i ≡ length c.args.words.now / 2 = omega arith in
+    ends of_events c.loop-i.invariant (xy_odd c.args.words.now c.loop-i.i k c.if-words-ne0.true) (refuses of_events _ _)
+
+pub returns : goal.returns
+returns c = ends of_events c.loop-i.invariant (xy_over c.args.words.now c.loop-i.i (omega arith) c.if-words-ne0.false) (nothing of_events _)
