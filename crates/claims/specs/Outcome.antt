@@ -5,6 +5,7 @@ use Rattle.laws.specs.Script.{Script, out, Format, run}
 use Rattle.laws.specs.Cut.{records_of, room_of, bytes_of, Said}
 use Rattle.kinds.specs.declared.flags.Flags.{Flags}
 use Rattle.kinds.specs.declared.refusal.Refusal.{Refusal}
+use Rattle.kinds.specs.declared.refusal.Refusal.TheVariants.{NotUtf8 as Unspelt}
 use Rattle.kinds.specs.Refusal.{number_of, answer_of, refused}
 use Rattle.store.specs.Lists.{Pools, record_with}
 use Rattle.event_log.specs.Log.{events}
@@ -14,14 +15,18 @@ use Rattle.wkb_reader.specs.Reading.{reading_r}
 use Rattle.wkb_written.specs.Writing.{Written, Did}
 use Rattle.property_writer.specs.Writing.{bytes_after}
 use Rattle.property_value.specs.Value.{placed}
-use Rattle.property_reader.specs.Reading.{reading, bad_in, stopped}
+use Rattle.property_value.specs.declared.refused.PropertyRefusal.{PropertyRefusal}
+use Rattle.property_value.specs.declared.refused.PropertyRefusal.TheVariants.{NotUtf8, Other}
+use Rattle.property_value.specs.Refused.{refusal_of, place_of, answer_of as number_in, answer_place, Proper, Told}
+use Rattle.property_reader.specs.Reading.{reading, bad_in, stopped, has_stopped}
+use Rattle.property_reader.specs.declared.PropertiesRead.{PropertiesRead}
 use Rattle.event_log.specs.Values.{values}
 use Rattle.writing.specs.declared.state.State.{State}
 use Rattle.writing.specs.State.{Mem, mem_of, outcome, Outcome, Wrote, wrote_of, wrote-number}
 use Rattle.writing.specs.Calls.{started, event_call, finish_call, next_call}
 use Rattle.runs.specs.declared.took.Took.{Took as Came}
 use Rattle.runs.specs.Events.{Took, took_of, Progress, progress, events_call}
-use Rattle.writer.specs.Property.{property_call, property_place}
+use Rattle.writer.specs.Property.{property_call, property_place, wrote_as}
 use Rattle.bintolage.specs.Calls.{Kept, kept, Taken, taken}
 
 -- ---- a log: its bytes, and the answer's number and count
@@ -35,7 +40,7 @@ ran_once : {A : Type 0} (F : Format A) (s : Script A) (L : List ℕ) (number num
     → run F s L 0 ≡ out number count M → run F s L 0 ≡ out number' count' M' → (number ≡ number') × (count ≡ count') × (M ≡ M')
 ran_once F s L number number' count count' M M' h k = let e = sym h ∙ k in (cc, cc, cc)
 
--- ---- what an answer comes to says which answer it is: a number is that of one refusal, and 0 is that of none. Of a property's refusal only its number and its place are told.
+-- ---- what an answer comes to says which answer it is: a number is that of one refusal, and 0 is that of none. Of a property's refusal its number and its place say so, since it is told as it is to be.
 refusal_once : (a b : Refusal) → number_of a ≡ number_of b → a ≡ b
 refusal_once a b h = grind arith
 
@@ -48,6 +53,18 @@ answer_once (Err p) (Err q) h same = ap Err (refusal_once p q h)
 pub wrote_once : (s : State) (a b : Result State Refusal) → wrote_of s a ≡ wrote_of s b → a ≡ b
 wrote_once s a b h = answer_once a b (sym (wrote-number s a) ∙ ap (λ (w : Wrote). w.number) h ∙ wrote-number s b)
     (λ x y p q. ap (λ (w : Wrote). w.state) (rw (p, q) at h))
+
+proper_once : (a b : PropertyRefusal) → Proper a → Proper b → number_of (refusal_of a) ≡ number_of (refusal_of b) → place_of a ≡ place_of b → a ≡ b
+proper_once (NotUtf8 place) (NotUtf8 other) p q h k = ap NotUtf8 k
+proper_once (NotUtf8 place) (Other refusal) p q h k = absurd (q (refusal_once refusal Unspelt (sym h)))
+proper_once (Other refusal) (NotUtf8 place) p q h k = absurd (p (refusal_once refusal Unspelt h))
+proper_once (Other refusal) (Other other) p q h k = ap Other (refusal_once refusal other h)
+
+pub told_once : {A : Type 0} (a b : Result A PropertyRefusal) → Told a → Told b → number_in a ≡ number_in b → answer_place a ≡ answer_place b → ((x y : A) → a ≡ Ok x → b ≡ Ok y → x ≡ y) → a ≡ b
+told_once (Ok x) (Ok y) p q h k same = ap Ok (same x y refl refl)
+told_once (Ok x) (Err e) p q h k same = absurd (refused (refusal_of e) (sym h))
+told_once (Err d) (Ok y) p q h k same = absurd (refused (refusal_of d) h)
+told_once (Err d) (Err e) p q h k same = ap Err (proper_once d e p q h k)
 
 abbrev came : ℕ → State → Result (Unit {0}) Refusal → Came
 came taken state answer = record { taken = taken; state = state; answer = answer }
@@ -115,6 +132,20 @@ pub property_once : (s : State) (column kind bits : ℕ) (text buffer : List ℕ
     → (r ≡ r') × (after ≡ after') × (place ≡ place')
 property_once s column kind bits text buffer r r' after after' place place' h k l h' k' l' = (h ∙ sym h', k ∙ sym k', l ∙ sym l')
 
+number_as : (s : State) (answer : Result State PropertyRefusal) → (wrote_as s answer).number ≡ number_in answer
+number_as s (Ok after) = refl
+number_as s (Err refusal) = refl
+
+-- and the answer of the code itself
+pub property_answer_once : (s : State) (column kind bits : ℕ) (text buffer : List ℕ) (a b : Result State PropertyRefusal) (after after' : List ℕ)
+    → wrote_as s a ≡ property_call s column kind bits text buffer → after ≡ bytes_after s.waiting s.properties column kind bits text buffer → answer_place a ≡ property_place s column kind bits text buffer → Told a
+    → wrote_as s b ≡ property_call s column kind bits text buffer → after' ≡ bytes_after s.waiting s.properties column kind bits text buffer → answer_place b ≡ property_place s column kind bits text buffer → Told b
+    → (a ≡ b) × (after ≡ after')
+property_answer_once s column kind bits text buffer a b after after' h k l t h' k' l' t' =
+    let o = property_once s column kind bits text buffer (wrote_as s a) (wrote_as s b) after after' (answer_place a) (answer_place b) h k l h' k' l' in
+    let numbers = sym (number_as s a) ∙ ap (λ (w : Wrote). w.number) o.0 ∙ number_as s b in
+    (told_once a b t t' numbers o.2 (λ x y p q. ap (λ (w : Wrote). w.state) (rw (p, q) at o.0)), o.1)
+
 -- ---- the readers
 module _ (number number' count count' : ℕ) (log log' : List ℕ) where
   pub read_once : (F : Flags) (feature : ℕ) (table : List ℕ) (P : Pools) (declared : ℕ) (L : List ℕ)
@@ -134,6 +165,21 @@ module _ (number number' count count' : ℕ) (log log' : List ℕ) where
   read_properties_once bytes has-columns columns stop L at at' place place' h k l h' k' l' =
       let o = ran_once values (reading bytes has-columns columns stop) L number number' count count' log log' h h' in
       (o.0, o.1, o.2, k ∙ ap (stopped stop (reading bytes has-columns columns stop)) o.0 ∙ sym k', l ∙ ap (λ (n : ℕ). placed n (bad_in bytes has-columns columns stop)) o.0 ∙ sym l')
+
+abbrev read_as : ℕ → Result Bool PropertyRefusal → PropertiesRead
+read_as count stopped = record { count = count; stopped = stopped }
+
+-- and the answer of the code itself
+pub read_properties_answer_once : (bytes : List ℕ) (has-columns : Bool) (columns : List ℕ) (stop : ℕ) (L : List ℕ) (a b : PropertiesRead) (log log' : List ℕ)
+    → run values (reading bytes has-columns columns stop) L 0 ≡ out (number_in a.stopped) a.count log
+    → has_stopped a.stopped ≡ stopped stop (reading bytes has-columns columns stop) (number_in a.stopped) → answer_place a.stopped ≡ placed (number_in a.stopped) (bad_in bytes has-columns columns stop) → Told a.stopped
+    → run values (reading bytes has-columns columns stop) L 0 ≡ out (number_in b.stopped) b.count log'
+    → has_stopped b.stopped ≡ stopped stop (reading bytes has-columns columns stop) (number_in b.stopped) → answer_place b.stopped ≡ placed (number_in b.stopped) (bad_in bytes has-columns columns stop) → Told b.stopped
+    → (a ≡ b) × (log ≡ log')
+read_properties_answer_once bytes has-columns columns stop L a b log log' h k l t h' k' l' t' =
+    let o = read_properties_once (number_in a.stopped) (number_in b.stopped) a.count b.count log log' bytes has-columns columns stop L (has_stopped a.stopped) (has_stopped b.stopped) (answer_place a.stopped) (answer_place b.stopped) h k l h' k' l' in
+    let answers = told_once a.stopped b.stopped t t' o.0 o.4 (λ x y p q. rw (p, q) at o.3) in
+    (ap (λ (n : ℕ). read_as n a.stopped) o.1 ∙ ap (read_as b.count) answers, o.2)
 
 -- ---- well-known binary written: the answer, how many bytes, and the buffer
 pub write_wkb_once : (w : Written) (room : List ℕ) (number number' long long' : ℕ) (after after' : List ℕ)

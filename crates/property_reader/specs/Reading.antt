@@ -11,7 +11,7 @@ use Rattle.utf8.specs.Utf8.{first_bad}
 use Rattle.property_value.specs.Column.{width_of}
 use Rattle.property_value.specs.Value.{text_ok, word_of, placed}
 use Rattle.kinds.specs.Refusal.{number_of}
-use Rattle.property_value.specs.Refused.{answer_of, answer_place}
+use Rattle.property_value.specs.Refused.{answer_of, answer_place, Told}
 use Rattle.property_value.specs.declared.refused.PropertyRefusal.{PropertyRefusal}
 use Rattle.property_value.specs.declared.refused.PropertyRefusal.TheVariants.{NotUtf8 as BadText, Other}
 use Rattle.property_reader.specs.declared.item.Property.{Property}
@@ -161,3 +161,4 @@ pub record Read (bytes columns : List ℕ) (last : ℕ) (a b : Log Values) (answ
   pub log_value : run values (properties_from bytes columns last 0) a.bytes.now a.count ≡ out (answer_of answer) b.count b.bytes.now
   pub stopped_value : has_stopped answer ≡ stopped last (properties_from bytes columns last 0) (answer_of answer)
   pub place_value : answer_place answer ≡ placed (answer_of answer) (bad_from bytes columns last 0)
+  pub told : Told answer

@@ -15,9 +15,10 @@ use Rattle.event_log.specs.Says.{Says, of_values}
 use Rattle.property_value.specs.declared.refused.PropertyRefusal.{PropertyRefusal}
 use Rattle.property_value.specs.declared.refused.PropertyRefusal.TheVariants.{NotUtf8 as BadText, Other}
 use Rattle.property_value.specs.Value.{placed}
-use Rattle.property_value.specs.ValueLaws.{not-placed}
+use Rattle.property_value.specs.ValueLaws.{not-placed, proper}
+use Rattle.property_value.specs.Refused.{Proper}
 use Rattle.property_reader.specs.Reading.{Item, End, Refused, NotUtf8, Skipped, Found, Read, property_as, refused_as, item_at, on_item, on_from, end_script, properties_from, end_place, keep_place, bad_from, says, stopped}
-use Rattle.property_reader.specs.ReadingLaws.{and_false, Ahead, ahead, on_unrolled}
+use Rattle.property_reader.specs.ReadingLaws.{and_false, Ahead, ahead, on_unrolled, every_item}
 
 -- ---- on the way
 
@@ -31,6 +32,21 @@ pub record Going (bytes columns : List ℕ) (last : ℕ) (a b : Log Values) (at 
 
 pub begun : (bytes columns : List ℕ) (last : ℕ) (a : Log Values) → Going bytes columns last a a 0
 begun bytes columns last a = record { inside = omega arith; memory = refl; same-run = refl; same-says = refl; same_bad = refl }
+
+-- 6 is refused of a text alone, with its place
+unfoldable Placed : Item → Type 0
+Placed End = Unit
+Placed (Refused number) = number ≡ 6 → ⊥
+Placed (NotUtf8 place) = Unit
+Placed (Skipped next) = Unit
+Placed (Found value next) = Unit
+
+told_at : (bytes columns : List ℕ) (at : ℕ) (refusal : PropertyRefusal) → refused_as refusal ≡ item_at bytes columns at → Proper refusal
+unfolding Placed
+told_at bytes columns at (BadText place) e = tt
+told_at bytes columns at (Other refusal) e =
+    let item = every_item Placed bytes columns at tt (λ six. omega arith) (λ six. omega arith) (λ listed whole fails. tt) (λ next h l. tt) (λ kind len word next h l. tt) in
+    proper refusal (rw (← e) at item)
 
 no_place : (t : Bool) (place : ℕ) → place ≡ 0 → cond t place 0 ≡ 0
 no_place true place e = e
@@ -68,7 +84,7 @@ module _ {bytes columns : List ℕ} {last : ℕ} {a b : Log Values} {at : ℕ} (
 
   pub at-end : End ≡ item_at bytes columns at → Read bytes columns last a b (Ok false)
   unfolding on_item says stopped placed
-  at-end e = record { memory = g.memory; log_value = runs_on End e ∙ run_stop values 0 b.bytes.now b.count; stopped_value = sym (says_on End e); place_value = refl }
+  at-end e = record { memory = g.memory; log_value = runs_on End e ∙ run_stop values 0 b.bytes.now b.count; stopped_value = sym (says_on End e); place_value = refl; told = tt }
 
   pub at_refused : (refusal : PropertyRefusal) → refused_as refusal ≡ item_at bytes columns at → Read bytes columns last a b (Err refusal)
   unfolding on_item says stopped placed
@@ -78,6 +94,7 @@ module _ {bytes columns : List ℕ} {last : ℕ} {a b : Log Values} {at : ℕ} (
         log_value = runs_on (NotUtf8 place) e ∙ run_stop values 6 b.bytes.now b.count;
         stopped_value = refl;
         place_value = sym (bad_on (NotUtf8 place) e);
+        told = tt;
       }
   at_refused (Other refusal) e =
       let number : ℕ = number_of refusal in
@@ -86,6 +103,7 @@ module _ {bytes columns : List ℕ} {last : ℕ} {a b : Log Values} {at : ℕ} (
         log_value = runs_on (Refused number) e ∙ run_stop values number b.bytes.now b.count;
         stopped_value = sym (and_false (eqb number 0) _ (says_on (Refused number) e));
         place_value = sym (no_place (eqb number 6) _ (bad_on (Refused number) e));
+        told = told_at bytes columns at (Other refusal) e;
       }
 
   pub at_skipped : (next : ℕ) → Skipped next ≡ item_at bytes columns at → Going bytes columns last a b next
@@ -111,11 +129,13 @@ module _ {bytes columns : List ℕ} {last : ℕ} {a b : Log Values} {at : ℕ} (
     unfolding stopped
     at_full {c = c} {refusal = refusal} said =
         let h = refused refusal in
+        let other : number_of refusal ≡ 6 → ⊥ = (λ six. omega (arith, one_nine values value b.bytes.now b.count said.said h)) in
         record {
           memory = said.memory ∙ g.memory;
           log_value = runs_one ∙ seq_refused values (one value) later b.bytes.now b.count said.said h;
           stopped_value = rw (ne_eqb (number_of refusal) 0 h);
-          place_value = sym (not-placed (number_of refusal) _ (λ six. omega (arith, one_nine values value b.bytes.now b.count said.said h)));
+          place_value = sym (not-placed (number_of refusal) _ other);
+          told = proper refusal other;
         }
 
     module _ {R : Type 0} {u : R} {c : Log Values} (said : Says of_values (one value) b c (Ok u)) where
@@ -131,6 +151,7 @@ module _ {bytes columns : List ℕ} {last : ℕ} {a b : Log Values} {at : ℕ} (
             log_value = runs_after ∙ rw t (run_stop values 0 c.bytes.now c.count);
             stopped_value = sym (says_on (Found value next) e ∙ rw t);
             place_value = refl;
+            told = tt;
           }
 
       pub at_next : (value.column ≡ last → ⊥) → Going bytes columns last a c next

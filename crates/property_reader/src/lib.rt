@@ -8,7 +8,7 @@ ghost use Rattle.std.specs.Option.{is_some};
 ghost use Rattle.laws.specs.Script.{out, run};
 ghost use Rattle.event_log.specs.Values.{values};
 ghost use Rattle.property_value.specs.Value.{placed};
-ghost use Rattle.property_value.specs.Refused.{answer_of, answer_place};
+ghost use Rattle.property_value.specs.Refused.{answer_of, answer_place, Told};
 ghost use Rattle.property_reader.specs.Reading.{reading, bad_in, stopped, has_stopped, Read, listed};
 
 use event_log::{Log, ValueLog, Values};
@@ -34,6 +34,7 @@ pub fn read_properties(
         run values s log.old 0 ≡ out (answer_of result.stopped) result.count log.new }
     ensures stopped_value { has_stopped result.stopped ≡ stopped stop (reading bytes.now (is_some columns.entry) (listed columns.entry) stop) (answer_of result.stopped) }
     ensures place_value { answer_place result.stopped ≡ placed (answer_of result.stopped) (bad_in bytes.now (is_some columns.entry) (listed columns.entry) stop) }
+    ensures told { Told result.stopped }
 {
     let Some(columns) = columns else {
         return PropertiesRead {

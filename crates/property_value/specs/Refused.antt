@@ -1,5 +1,5 @@
 -- What a refusal of a property comes to: a call's refusal, and the place that goes with it.
-use Rattle.std.specs.Prelude.{ℕ, Result}
+use Rattle.std.specs.Prelude.{◌≡◌, ℕ, Result}
 use Rattle.std.proofs.Common.{Ok, Err}
 use Rattle.kinds.specs.declared.refusal.Refusal.{Refusal}
 use Rattle.kinds.specs.declared.refusal.Refusal.TheVariants.{NotUtf8 as Unspelt}
@@ -15,7 +15,17 @@ abbrev pub place_of : PropertyRefusal → ℕ
 place_of (NotUtf8 place) = place
 place_of (Other refusal) = 0
 
--- the same of an answer, whose number and whose place are 0 where it is done
+-- a refusal is told as it is to be: a text that is not UTF-8 with its place, and so never as one of the others
+abbrev pub Proper : PropertyRefusal → Type 0
+Proper (NotUtf8 place) = Unit
+Proper (Other refusal) = refusal ≡ Unspelt → ⊥
+
+-- the same of an answer: its number and its place say then which it is
+abbrev pub Told : {A : Type 0} → Result A PropertyRefusal → Type 0
+Told (Ok a) = Unit
+Told (Err refusal) = Proper refusal
+
+-- what an answer comes to, whose number and whose place are 0 where it is done
 abbrev pub answer_of : {A : Type 0} → Result A PropertyRefusal → ℕ
 answer_of (Ok a) = 0
 answer_of (Err refusal) = number_of (refusal_of refusal)

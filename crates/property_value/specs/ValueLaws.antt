@@ -5,8 +5,12 @@ use Rattle.std.proofs.lemmas.Bool.{eqb-false, lt-leb}
 use Rattle.laws.specs.Every.{never, neither, fails}
 use Rattle.utf8.specs.Utf8.{first_bad, is_utf8, BadIs}
 use Rattle.utf8.specs.Meaning.{text_utf8, bad_first, at_bad}
+use Rattle.kinds.specs.declared.refusal.Refusal.{Refusal}
+use Rattle.kinds.specs.Refusal.{number_of}
 use Rattle.property_value.specs.Column.{width_of, is_text}
 use Rattle.property_value.specs.Value.{malformed, text_ok, Checked, placed, word_of}
+use Rattle.property_value.specs.declared.refused.PropertyRefusal.TheVariants.{Other}
+use Rattle.property_value.specs.Refused.{Proper}
 
 -- ---- a number's bits
 
@@ -69,6 +73,12 @@ checked_once kind text None None h k = refl
 checked_once kind text None (Some place) h k = absurd (never (sym k.0 ∙ h))
 checked_once kind text (Some place) None h k = absurd (never (sym h.0 ∙ k))
 checked_once kind text (Some place) (Some other) h k = ap Some (h.1 ∙ sym k.1)
+
+-- ---- a refusal
+
+-- one that has another number than a text's is told as it is to be
+pub proper : (refusal : Refusal) → (number_of refusal ≡ 6 → ⊥) → Proper (Other refusal)
+proper refusal other same = other (ap number_of same)
 
 -- ---- a place
 

@@ -7,11 +7,14 @@ use crate::column::is_text;
 use kinds::column_type::ColumnType;
 use utf8::first_bad;
 
-// Eight bytes hold any bits, and those of a text are passed over.
+// Eight bytes hold any bits, and those of a text are passed over. A value of no type is malformed whatever its bits are.
 #[tactic(auto, unfolding(crate::specs::Value::malformed, crate::specs::Column::width_of))]
-pub fn is_malformed(kind: ColumnType, bits: u64) -> bool
-    ensures { result ≡ malformed (type_number kind) bits }
+pub fn is_malformed(kind: u8, bits: u64) -> bool
+    ensures { result ≡ malformed kind bits }
 {
+    let Ok(kind) = ColumnType::try_from(kind) else {
+        return true;
+    };
     match kind {
         ColumnType::Byte | ColumnType::UByte => bits >= 0x100,
         ColumnType::Bool => bits > 1,

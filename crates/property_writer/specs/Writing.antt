@@ -10,7 +10,7 @@ use Rattle.utf8.specs.Utf8.{first_bad}
 use Rattle.property_value.specs.Column.{width_of}
 use Rattle.property_value.specs.Value.{malformed, text_ok, placed}
 use Rattle.property_value.specs.declared.refused.PropertyRefusal.{PropertyRefusal}
-use Rattle.property_value.specs.Refused.{refusal_of as refused_as, place_of, answer_of, answer_place}
+use Rattle.property_value.specs.Refused.{refusal_of as refused_as, place_of, answer_of, answer_place, Proper}
 
 -- a text as bytes: a u32 length first
 unfoldable pub text_bytes : List ℕ → List ℕ
@@ -77,9 +77,10 @@ pub record Exact (kind bits : ℕ) (text : List ℕ) : Type 0 where
   pub number : kind ≤ 10 → bits < 256 ^ width_of kind
   pub count : 11 ≤ kind → length text < 256 ^ 4
 
--- a property that is judged: the type that its kind is where it may be written, or the refusal, with its place
+-- a property that is judged: the type that its kind is where it may be written, or the refusal, with its place, told as it is to be
 abbrev pub Judged : Bool → ℕ → ℕ → ℕ → ℕ → List ℕ → ℕ → Result ColumnType PropertyRefusal → Type 0
 Judged waiting used column kind bits text lent (Ok type) = (refusal_of waiting used column kind bits text lent ≡ 0) × (type_number type ≡ kind)
 Judged waiting used column kind bits text lent (Err refusal) =
     (number_of (refused_as refusal) ≡ refusal_of waiting used column kind bits text lent)
     × (place_of refusal ≡ placed (refusal_of waiting used column kind bits text lent) (first_bad text))
+    × Proper refusal

@@ -1,42 +1,43 @@
 // An accepted property laid down: its column's index in two bytes, then its value.
 ghost use Rattle.std.specs.Prelude.{◌≡◌, true, ◌+◌, ◌^◌, ◌≤◌, ◌<◌, length};
 ghost use Rattle.std.proofs.lemmas.List.Edits.{sets};
-ghost use Rattle.kinds.specs.ColumnType.{type_number};
 ghost use Rattle.laws.specs.Bytes.{le};
-ghost use Rattle.property_value.specs.Column.{is_width};
+ghost use Rattle.property_value.specs.Column.{WidthIs, is_width};
 ghost use Rattle.property_writer.specs.Writing.{text_bytes, laid_down, property_bytes, Exact};
 
-use crate::Property;
 use kinds::column_type::ColumnType;
 use numbers::{put_u16, put_u32, put_u64};
 use property_value::width;
 
 // What lies past the index is lent to the value writer.
-pub fn lay_property(at: usize, kind: ColumnType, property: Property, buffer: &mut [u8])
-    requires index { property.column < 65536 }
-    requires text_in_bounds { at + length (property_bytes property.column (type_number kind) property.bits property.text.now) ≤ length buffer.old }
-    requires exact { Exact (type_number kind) property.bits property.text.now }
-    ensures { let p = property.entry in
-        buffer.new ≡ sets buffer.old at (property_bytes p.column (type_number kind) p.bits p.text.now) }
+pub fn lay_property(at: usize, column: u16, kind: u8, bits: u64, text: &[u8], buffer: &mut [u8])
+    requires text_in_bounds { at + length (property_bytes column kind bits text.now) ≤ length buffer.old }
+    requires exact { Exact kind bits text.now }
+    ensures { buffer.new ≡ sets buffer.old at (property_bytes column kind bits text.now) }
 {
-    put_u16(buffer, at, property.column as u16);
+    put_u16(buffer, at, column);
     let after_index = at + 2;
-    put_value(
-        kind,
-        property.bits,
-        property.text,
-        &mut buffer[after_index..],
-    );
+    put_value(kind, bits, text, &mut buffer[after_index..]);
 }
 
-fn put_value(kind: ColumnType, bits: u64, text: &[u8], out: &mut [u8])
-    requires text_in_bounds { length (laid_down (type_number kind) bits text.now) ≤ length out.old }
-    requires exact { Exact (type_number kind) bits text.now }
-    ensures { out.new ≡ sets out.old 0 (laid_down (type_number kind) bits text.now) }
+fn put_value(kind: u8, bits: u64, text: &[u8], out: &mut [u8])
+    requires text_in_bounds { length (laid_down kind bits text.now) ≤ length out.old }
+    requires exact { Exact kind bits text.now }
+    ensures { out.new ≡ sets out.old 0 (laid_down kind bits text.now) }
 {
-    match width(kind) {
+    match number_width(kind) {
         Some(width) => put_number(width, bits, out),
         None => put_text(text, out),
+    }
+}
+
+// A number's width. What no type is laid down as a text is, but no property of such a type is accepted.
+fn number_width(kind: u8) -> Option<usize>
+    ensures { WidthIs kind result }
+{
+    match ColumnType::try_from(kind) {
+        Ok(kind) => width(kind),
+        Err(_) => None,
     }
 }
 

@@ -5,6 +5,7 @@ mod lay;
 
 ghost use Rattle.std.specs.Prelude.{◌≡◌};
 ghost use Rattle.kinds.specs.ColumnType.{type_number};
+ghost use Rattle.property_value.specs.Refused.{Told};
 ghost use Rattle.property_writer.specs.Writing.{put_as, put_of, bytes_after, property_length, Judged};
 
 use kinds::column_type::ColumnType;
@@ -32,9 +33,17 @@ pub fn put_property(
         put_as used result ≡ put_of waiting used p.column p.kind p.bits p.text.now buffer.old }
     ensures bytes { let p = property.entry in
         buffer.new ≡ bytes_after waiting used p.column p.kind p.bits p.text.now buffer.old }
+    ensures told { Told result }
 {
     let kind = judge(waiting, used, property, buffer.len())?;
-    lay_property(used as usize, kind, property, buffer);
+    lay_property(
+        used as usize,
+        property.column as u16,
+        property.kind,
+        property.bits,
+        property.text,
+        buffer,
+    );
     Ok(used + property_length(kind, property.text) as u32)
 }
 
@@ -58,7 +67,7 @@ fn judge(
     let Ok(kind) = ColumnType::try_from(property.kind) else {
         return Err(PropertyRefusal::Other(Refusal::Malformed));
     };
-    if is_malformed(kind, property.bits) {
+    if is_malformed(property.kind, property.bits) {
         return Err(PropertyRefusal::Other(Refusal::Malformed));
     }
     if let Some(place) = bad_text(property.kind, property.text) {

@@ -19,8 +19,9 @@ pub struct Parts {
 // For each record how many levels were left, its own among them, when it was last walked through, or NONE.
 pub type Marks = [u16; usable::RECORDS];
 
-// The mark of a record that was never walked through: more than any record has levels left. 0 is no mark either. It is kept as
-// a number, since is_clear takes any u16.
+// The mark of a record that was never walked through: more than any has levels left. Its two bytes are not the same, so that
+// an array of them is filled by stores; one of zeros, or of bytes, would be filled by a call of memset, and the library calls nothing.
+// It is kept as a number, since is_clear takes any u16.
 pub const NONE: u16 = 17;
 
 // The parts of record n. Without a list there are none.

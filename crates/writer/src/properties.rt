@@ -1,6 +1,6 @@
 // A property of the feature in hand: its bytes stand beside the geometry, and the state counts them.
 ghost use Rattle.std.specs.Prelude.{◌≡◌};
-ghost use Rattle.property_value.specs.Refused.{answer_place};
+ghost use Rattle.property_value.specs.Refused.{answer_place, Told};
 ghost use Rattle.property_writer.specs.Writing.{bytes_after};
 ghost use Rattle.writer.specs.Property.{wrote_as, property_call, property_place};
 
@@ -17,6 +17,7 @@ pub fn property(s: State, property: Property, buffer: &mut [u8]) -> Result<State
         answer_place result ≡ property_place s p.column p.kind p.bits p.text.now buffer.old }
     ensures bytes { let p = property.entry in
         buffer.new ≡ bytes_after s.waiting s.properties p.column p.kind p.bits p.text.now buffer.old }
+    ensures told { Told result }
 {
     let properties = put_property(s.waiting, s.properties, property, buffer)?;
     Ok(State { properties, ..s })

@@ -3,8 +3,10 @@ use Rattle.std.specs.Prelude.{Bool, true, false, cond, List, ℕ, ◌+◌, ◌�
 use native.Mathlib.Omega.{arith}
 use lib.Dec.{ltb}
 use borrow.Author.Tests.{lt-ltb, le-ltb}
+use Rattle.kinds.specs.declared.refusal.Refusal.TheVariants.{NotItsTurn, ColumnTooLarge, Malformed, NoRoom}
 use Rattle.kinds.specs.ColumnType.{type_number}
 use Rattle.property_value.specs.Value.{malformed, text_ok, placed}
+use Rattle.property_value.specs.ValueLaws.{proper}
 use Rattle.property_writer.specs.Writing.{refusal_of, property_length}
 use Rattle.property_writer.specs.WritingLaws.{length_property, length_most}
 use Rattle.property_writer.proofs.judge.Goals as goal
@@ -32,16 +34,16 @@ only_room waiting used column kind bits text lent bad size room turn index forme
     )
 
 pub returns-then-waiting : goal.returns-then-waiting
-returns-then-waiting c = unfold refusal_of placed in rw (c.if-waiting.true) (refl, refl)
+returns-then-waiting c = unfold refusal_of placed in rw (c.if-waiting.true) (refl, refl, proper NotItsTurn (λ six. omega arith))
 
 pub returns-then-property-gt65535 : goal.returns-then-property-gt65535
-returns-then-property-gt65535 c = unfold refusal_of placed in rw (c.if-waiting.false, lt-ltb 65535 _ c.if-property-gt65535.true) (refl, refl)
+returns-then-property-gt65535 c = unfold refusal_of placed in rw (c.if-waiting.false, lt-ltb 65535 _ c.if-property-gt65535.true) (refl, refl, proper ColumnTooLarge (λ six. omega arith))
 
 pub returns-in_default : goal.returns-in_default
 returns-in_default c =
     unfold refusal_of placed in
     let a = c.args in
-    rw (c.if-waiting.false, le-ltb 65535 _ c.if-property-gt65535.false, no_type a.property.kind a.property.bits c.in_default.ensures) (refl, refl)
+    rw (c.if-waiting.false, le-ltb 65535 _ c.if-property-gt65535.false, no_type a.property.kind a.property.bits c.in_default.ensures) (refl, refl, proper Malformed (λ six. omega arith))
 
 pub returns-then-is_malformed : goal.returns-then-is_malformed
 returns-then-is_malformed c =
@@ -49,10 +51,9 @@ returns-then-is_malformed c =
     rw (
       c.if-waiting.false,
       le-ltb 65535 _ c.if-property-gt65535.false,
-      ← c.in-Ok.ensures,
       ← c.is_malformed.ensures,
       c.if-is_malformed.true,
-    ) (refl, refl)
+    ) (refl, refl, proper Malformed (λ six. omega arith))
 
 pub returns-in-Some : goal.returns-in-Some
 returns-in-Some c =
@@ -61,10 +62,9 @@ returns-in-Some c =
       c.if-waiting.false,
       le-ltb 65535 _ c.if-property-gt65535.false,
       c.in-Some.ensures.0,
-      ← c.in-Ok.ensures,
       ← c.is_malformed.ensures,
       c.if-is_malformed.false,
-    ) (refl, c.in-Some.ensures.1)
+    ) (refl, c.in-Some.ensures.1, tt)
 
 pub overflow_add-used : goal.overflow_add-used
 overflow_add-used c =
@@ -76,7 +76,7 @@ returns-then-used-property_length c =
     unfold placed in
     let a = c.args in
     let index : a.property.column ≤ 65535 = omega arith in
-    let r : refusal_of a.waiting a.used a.property.column (type_number c.in-Ok.kind) a.property.bits a.property.text.now a.lent
+    let r : refusal_of a.waiting a.used a.property.column a.property.kind a.property.bits a.property.text.now a.lent
     ≡ cond (ltb c.usable_length.result (a.used + c.property_length.result)) 12 0 =
     only_room
     a.waiting a.used a.property.column _ a.property.bits a.property.text.now a.lent _ _ _
@@ -84,16 +84,16 @@ returns-then-used-property_length c =
     index
     c.is_malformed.ensures
     c.if-is_malformed.false
-    (rw (← c.in-Ok.ensures) at c.in_default-bad_text.ensures)
-    c.property_length.ensures
+    c.in_default-bad_text.ensures
+    (rw c.in-Ok.ensures at c.property_length.ensures)
     c.usable_length.ensures in
-    rw (← c.in-Ok.ensures, r, lt-ltb _ _ c.if-used-property_length.true) (refl, refl)
+    rw (r, lt-ltb _ _ c.if-used-property_length.true) (refl, refl, proper NoRoom (λ six. omega arith))
 
 pub returns : goal.returns
 returns c =
     let a = c.args in
     let index : a.property.column ≤ 65535 = omega arith in
-    let r : refusal_of a.waiting a.used a.property.column (type_number c.in-Ok.kind) a.property.bits a.property.text.now a.lent
+    let r : refusal_of a.waiting a.used a.property.column a.property.kind a.property.bits a.property.text.now a.lent
     ≡ cond (ltb c.usable_length.result (a.used + c.property_length.result)) 12 0 =
     only_room
     a.waiting a.used a.property.column _ a.property.bits a.property.text.now a.lent _ _ _
@@ -101,7 +101,7 @@ returns c =
     index
     c.is_malformed.ensures
     c.if-is_malformed.false
-    (rw (← c.in-Ok.ensures) at c.in_default-bad_text.ensures)
-    c.property_length.ensures
+    c.in_default-bad_text.ensures
+    (rw c.in-Ok.ensures at c.property_length.ensures)
     c.usable_length.ensures in
-    (rw (← c.in-Ok.ensures, r, le-ltb _ _ c.if-used-property_length.false), c.in-Ok.ensures)
+    (rw (r, le-ltb _ _ c.if-used-property_length.false), c.in-Ok.ensures)

@@ -16,13 +16,18 @@ returns-in_err-kind c =
     let a = c.args in
     let gone = err_from_is_err_and c.from_residual.result c.from_residual.ensures.1 in
     let stays = put-refused a.waiting a.used a.property.column a.property.kind a.property.bits a.property.text.now a.buffer.now c.in_err-kind.field-0.0 c.in_err-kind.ensures in
-    rw (gone.1, gone.2) (record { answer = stays.0; bytes = stays.1 })
+    rw (gone.1, gone.2) (record { answer = stays.0; bytes = stays.1; told = c.in_err-kind.ensures.2 })
 
 pub lay_property-requires : goal.lay_property-requires
 lay_property-requires c =
     let a = c.args in
     let facts = accepted a.waiting a.used a.property.column a.property.kind a.property.bits a.property.text.now (length a.buffer.now) c.in_ok-kind.ensures.0 in
-    rw c.in_ok-kind.ensures.1 (record { index = facts.index; text_in_bounds = facts.room; exact = facts.exact })
+    record { text_in_bounds = facts.room; exact = facts.exact }
+
+pub overflow_cast-property : goal.overflow_cast-property
+overflow_cast-property c =
+    let a = c.args in
+    omega (arith, (accepted a.waiting a.used a.property.column a.property.kind a.property.bits a.property.text.now (length a.buffer.now) c.in_ok-kind.ensures.0).index)
 
 pub overflow_cast-result : goal.overflow_cast-result
 overflow_cast-result c =
@@ -43,5 +48,6 @@ returns c =
     let sized : c.property_length.result ≡ property_length a.property.kind a.property.text.now = rw c.in_ok-kind.ensures.1 at c.property_length.ensures in
     record {
       answer = rw (put-done a.waiting a.used a.property.column a.property.kind a.property.bits a.property.text.now a.buffer.now none, length_property a.property.column a.property.kind a.property.bits a.property.text.now, ← sized);
-      bytes = rw (bytes-done a.waiting a.used a.property.column a.property.kind a.property.bits a.property.text.now a.buffer.now none) (rw c.in_ok-kind.ensures.1 at c.lay_property.ensures);
+      bytes = rw (bytes-done a.waiting a.used a.property.column a.property.kind a.property.bits a.property.text.now a.buffer.now none) c.lay_property.ensures;
+      told = tt;
     }

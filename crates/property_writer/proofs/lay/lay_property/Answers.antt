@@ -2,7 +2,6 @@ use mathlib.Core.Path.{refl}
 use Prim.Native.Nat.{◌+◌}
 use native.Mathlib.Omega.{arith}
 use lib.ListN.{length-take, length-drop}
-use Rattle.kinds.specs.ColumnType.{type_number}
 use Rattle.laws.specs.Bytes.{le}
 use Rattle.laws.specs.Runs.{then, lent_tail}
 use Rattle.property_writer.specs.Writing.{laid_down, property_bytes}
@@ -26,6 +25,6 @@ pub returns : goal.returns
 returns c =
     unfold property_bytes in
     let a = c.args in
-    let bytes = laid_down (type_number a.kind) a.property.bits a.property.text.now in
-    then a.buffer.now (le 2 a.property.column) bytes a.at 2 c.put_u16.ensures refl
+    let bytes = laid_down a.kind a.bits a.text.now in
+    then a.buffer.now (le 2 a.column) bytes a.at 2 c.put_u16.ensures refl
     (lent_tail c.put_u16.new.s bytes _ (a.at + 2) (omega (arith, c.requires.text_in_bounds)) c.put_value.ensures)
