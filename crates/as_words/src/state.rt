@@ -1,7 +1,7 @@
 // A writer's state as words, so that a caller in another language can keep it.
 ghost use Rattle.std.specs.Prelude.{◌≡◌, ◌+◌, ◌<◌};
 ghost use Rattle.kinds.specs.Refusal.{answer_of};
-ghost use Rattle.writing.specs.State.{wrote_of};
+ghost use Rattle.writing.specs.State.{wrote, wrote_of};
 ghost use Rattle.runs.specs.Events.{took_of};
 ghost use Rattle.as_words.specs.Words.{typing_of, list_at, feature_by, pending_of, state_of, is_numbered, number_of, mark, head_of, words_of, words_after, words_after_all};
 
@@ -164,6 +164,19 @@ pub fn words_of(s: State) -> StateWords
     ]
 }
 
+// Keeps the state that comes with a number, where the number is that of done, and gives the number. With any other the words stay as
+// they were.
+#[tactic(auto, unfolding(crate::specs::Words::words_after))]
+pub fn keep_numbered(words: &mut StateWords, number: u8, state: State) -> u8
+    ensures value { result ≡ number }
+    ensures words_after { words.new ≡ words_after words.old (wrote number state) }
+{
+    if number == 0 {
+        *words = words_of(state);
+    }
+    number
+}
+
 // Keeps the state that a call handed back, and gives its number. A refusal leaves the words as they were.
 #[tactic(auto, unfolding(crate::specs::Words::words_after))]
 pub fn keep(words: &mut StateWords, wrote: Result<State, Refusal>) -> u8
@@ -171,10 +184,7 @@ pub fn keep(words: &mut StateWords, wrote: Result<State, Refusal>) -> u8
     ensures words_after { (s : State) → words.new ≡ words_after words.old (wrote_of s wrote) }
 {
     match wrote {
-        Ok(after) => {
-            *words = words_of(after);
-            0
-        }
+        Ok(after) => keep_numbered(words, 0, after),
         Err(refusal) => refusal.number(),
     }
 }

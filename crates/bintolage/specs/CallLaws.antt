@@ -13,17 +13,23 @@ use Rattle.kinds.specs.declared.event.Heard.TheVariants.{Pair}
 use Rattle.event_log.specs.Log.{heard}
 use Rattle.event_log.specs.LogLaws.{HeardPair, not_whole, behind}
 use Rattle.writing.specs.declared.state.State.{State}
-use Rattle.writing.specs.State.{Mem, Outcome, outcome, wrote_of, wrote-number}
+use Rattle.writing.specs.State.{Mem, Wrote, Outcome, outcome, wrote_of, wrote-number}
 use Rattle.runs.specs.Events.{Took, Progress, progress}
 use Rattle.as_words.specs.Words.{state_of, words_after, words_after_all}
 use Rattle.bintolage.specs.Calls.{one, kept, kept_of, taken, taken_of}
 
 -- a writing call on the state of the words, whose answer is kept in them
-pub kept_call : (call : State → Outcome) (words : List ℕ) {s : State} (answer : Result State Refusal) {number : ℕ} {after : List ℕ} (mem : Mem)
-    → s ≡ state_of words → outcome (wrote_of s answer) mem ≡ call s → number ≡ answer_of answer → ((t : State) → after ≡ words_after words (wrote_of t answer))
+pub kept_call : (call : State → Outcome) (words : List ℕ) {s : State} {r : Wrote} {number : ℕ} {after : List ℕ} (mem : Mem)
+    → s ≡ state_of words → outcome r mem ≡ call s → number ≡ r.number → after ≡ words_after words r
     → kept number after mem ≡ kept_of words (call (state_of words))
 unfolding kept_of
-kept_call call words {s} answer mem same called number_is words_are = rw (number_is, words_are s, ← wrote-number s answer) (ap (kept_of words) called ∙ ap (λ (t : State). kept_of words (call t)) same)
+kept_call call words mem same called number_is words_are = rw (number_is, words_are) (ap (kept_of words) called ∙ ap (λ (s : State). kept_of words (call s)) same)
+
+-- from the answer as the code has it
+pub kept_answered : (call : State → Outcome) (words : List ℕ) {s : State} (answer : Result State Refusal) {number : ℕ} {after : List ℕ} (mem : Mem)
+    → s ≡ state_of words → outcome (wrote_of s answer) mem ≡ call s → number ≡ answer_of answer → ((t : State) → after ≡ words_after words (wrote_of t answer))
+    → kept number after mem ≡ kept_of words (call (state_of words))
+kept_answered call words {s} answer mem same called number_is words_are = kept_call call words mem same called (number_is ∙ sym (wrote-number s answer)) (words_are s)
 
 pub taken_call : (call : State → Progress) (words : List ℕ) {s : State} {r : Took} {number count : ℕ} {after : List ℕ} (mem : Mem)
     → s ≡ state_of words → progress r mem ≡ call s → number ≡ r.number → count ≡ r.taken → after ≡ words_after_all words r

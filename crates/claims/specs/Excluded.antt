@@ -41,7 +41,7 @@ use Rattle.bintolage.specs.Calls.{Kept, kept, kept_of}
 use Rattle.store.specs.Records.{records_lent}
 use Rattle.claims.specs.Linked.{call_state}
 use Rattle.claims.specs.Bench.{b1}
-use Rattle.claims.specs.Outcome.{read_once}
+use Rattle.claims.specs.Outcome.{bintolage_read_once}
 
 -- a Point's begin is taken
 point : List ℕ
@@ -182,4 +182,4 @@ reads_nothing n L number M room said = something_said n _ _ _ L number M (b1 n).
 -- ---- a record count that isn't the log's
 pub another_count : (F : Flags) (feature : ℕ) (table : List ℕ) (P : Pools) (declared : ℕ) (L : List ℕ) (number count another : ℕ) (M : List ℕ)
     → Said (events feature) (read_s F (record_with table P) declared) L number count M → (another ≡ count → ⊥) → Said (events feature) (read_s F (record_with table P) declared) L number another M → ⊥
-another_count F feature table P declared L number count another M said differs told = differs (read_once number number another count M M F feature table P declared L told said).1
+another_count F feature table P declared L number count another M said differs told = differs (bintolage_read_once number number another count M M F feature table P declared L told said).1

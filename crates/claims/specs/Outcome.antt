@@ -1,4 +1,4 @@
--- One outcome: whatever meets a call's contract on the same entry is the same, answer, state and every lent slice. The premises are the calls' own `ensures`, word for word, over what an answer comes to.
+-- One outcome: whatever meets a call's contract on the same entry is the same, answer, state and every lent slice. The premises are the calls' own `ensures`, word for word.
 use Rattle.std.specs.Prelude.{◌≡◌, refl, Result, Bool, List, ◌++◌, ℕ, ◌*◌, take, drop}
 use Rattle.std.proofs.Common.{Ok, Err, sym, ap, ◌∙◌, arith}
 use Rattle.laws.specs.Script.{Script, out, Format, run}
@@ -9,6 +9,10 @@ use Rattle.kinds.specs.declared.refusal.Refusal.TheVariants.{NotUtf8 as Unspelt}
 use Rattle.kinds.specs.Refusal.{number_of, answer_of, refused}
 use Rattle.store.specs.Lists.{Pools, record_with}
 use Rattle.event_log.specs.Log.{events}
+use Rattle.event_log.specs.declared.log.Log.{Log}
+use Rattle.event_log.specs.declared.layouts.Events.{Events}
+use Rattle.event_log.specs.Says.{Says, of_events}
+use Rattle.kinds.specs.declared.event.Event.{Event}
 use Rattle.record_box.specs.Boxed.{Boxed, box_of, boxed_of}
 use Rattle.reader.specs.Reading.{read_s}
 use Rattle.wkb_reader.specs.Reading.{reading_r}
@@ -146,17 +150,44 @@ property_answer_once s column kind bits text buffer a b after after' h k l t h' 
     let numbers = sym (number_as s a) ∙ ap (λ (w : Wrote). w.number) o.0 ∙ number_as s b in
     (told_once a b t t' numbers o.2 (λ x y p q. ap (λ (w : Wrote). w.state) (rw (p, q) at o.0)), o.1)
 
--- ---- the readers
+-- ---- the readers. Whatever a call says to a log that holds so many records, it leaves one log and gives one answer.
+pub says_once : {L A R : Type 0} (format : L → Format A) (s : Script A) (a b b' : Log L) (r r' : Result R Refusal)
+    → Says format s a b r → Says format s a b' r' → (answer_of r ≡ answer_of r') × (b.count ≡ b'.count) × (b.bytes.now ≡ b'.bytes.now) × (b.bytes.ghost_name ≡ b'.bytes.ghost_name) × (b.layout ≡ b'.layout)
+says_once format s a b b' r r' h h' =
+    let e = sym h.said ∙ h'.said in
+    (cc, cc, cc, h.memory ∙ sym h'.memory, h.layout ∙ sym h'.layout)
+
+done_once : (r r' : Result (Unit {0}) Refusal) → answer_of r ≡ answer_of r' → r ≡ r'
+done_once r r' h = answer_once r r' h (λ x y p q. refl)
+
+-- from any count on
+module _ (a b b' : Log Events) (r r' : Result (Unit {0}) Refusal) where
+  abbrev pub OneLog : Type 0
+  OneLog = (r ≡ r') × (b.count ≡ b'.count) × (b.bytes.now ≡ b'.bytes.now) × (b.bytes.ghost_name ≡ b'.bytes.ghost_name) × (b.layout ≡ b'.layout)
+
+  one_log : (s : Script Event) → Says of_events s a b r → Says of_events s a b' r' → OneLog
+  one_log s h h' =
+      let o = says_once of_events s a b b' r r' h h' in
+      (done_once r r' o.0, o.1, o.2, o.3, o.4)
+
+  pub read_once : (F : Flags) (table : List ℕ) (P : Pools) (declared : ℕ)
+      → Says of_events (read_s F (record_with table P) declared) a b r → Says of_events (read_s F (record_with table P) declared) a b' r' → OneLog
+  read_once F table P declared = one_log (read_s F (record_with table P) declared)
+
+  pub read_wkb_once : (bytes : List ℕ) → Says of_events (reading_r bytes) a b r → Says of_events (reading_r bytes) a b' r' → OneLog
+  read_wkb_once bytes = one_log (reading_r bytes)
+
+-- as they are exported, from the log's start
 module _ (number number' count count' : ℕ) (log log' : List ℕ) where
-  pub read_once : (F : Flags) (feature : ℕ) (table : List ℕ) (P : Pools) (declared : ℕ) (L : List ℕ)
+  pub bintolage_read_once : (F : Flags) (feature : ℕ) (table : List ℕ) (P : Pools) (declared : ℕ) (L : List ℕ)
       → Said (events feature) (read_s F (record_with table P) declared) L number count log → Said (events feature) (read_s F (record_with table P) declared) L number' count' log'
       → (number ≡ number') × (count ≡ count') × (log ≡ log')
-  read_once F feature table P declared L = said_once (events feature) (read_s F (record_with table P) declared) L number number' count count' log log'
+  bintolage_read_once F feature table P declared L = said_once (events feature) (read_s F (record_with table P) declared) L number number' count count' log log'
 
-  pub read_wkb_once : (feature : ℕ) (bytes L : List ℕ)
+  pub bintolage_read_wkb_once : (feature : ℕ) (bytes L : List ℕ)
       → Said (events feature) (reading_r bytes) L number count log → Said (events feature) (reading_r bytes) L number' count' log'
       → (number ≡ number') × (count ≡ count') × (log ≡ log')
-  read_wkb_once feature bytes L = said_once (events feature) (reading_r bytes) L number number' count count' log log'
+  bintolage_read_wkb_once feature bytes L = said_once (events feature) (reading_r bytes) L number number' count count' log log'
 
   pub read_properties_once : (bytes : List ℕ) (has-columns : Bool) (columns : List ℕ) (stop : ℕ) (L : List ℕ) (at at' : Bool) (place place' : ℕ)
       → run values (reading bytes has-columns columns stop) L 0 ≡ out number count log → at ≡ stopped stop (reading bytes has-columns columns stop) number → place ≡ placed number (bad_in bytes has-columns columns stop)

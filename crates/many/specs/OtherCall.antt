@@ -51,7 +51,7 @@ module _ (s : State) (n : ℕ) (ready : Bool) (e : Event) (table xy ends z m t t
       ends_is
       ∙ ap (λ (b : Ask). event_with s n b e (mem_of table xy ends z m t tm)) (sym as_ends)
 
-  other_call : (bytes : List ℕ) → heard bytes ≡ WellFormed e → e.kind < 64 → n ≡ feature_in bytes
+  pub other_call : (bytes : List ℕ) → heard bytes ≡ WellFormed e → e.kind < 64 → n ≡ feature_in bytes
       → r ≡ decide_other s n (ask_of s.typing e) ready (records_lent table) (length ends)
       → table' ≡ cond (eqb r.number 0) (table_after s (ask_of s.typing e) table) table
       → ends' ≡ cond (eqb r.number 0) (sets ends (used s.pending.ends) (gives s (ask_of s.typing e).added e endsL)) ends

@@ -3,10 +3,10 @@ use Rattle.store.specs.Lists.{pools_of}
 use Rattle.writing.specs.declared.state.State.{State}
 use Rattle.writing.specs.State.{memory}
 use Rattle.writing.specs.Calls.{next_call}
-use Rattle.bintolage.specs.CallLaws.{kept_call}
+use Rattle.bintolage.specs.CallLaws.{kept_answered}
 use Rattle.bintolage.proofs.bintolage_next.Goals as goal
 
 pub returns : goal.returns
 returns c =
-    let told = kept_call (λ (s : State). next_call s (memory c.args.table.now (pools_of c.args.xy.now c.args.ends.now c.args.z.now c.args.m.now c.args.t.now c.args.tm.now))) c.args.state.now _ _ c.state_of.ensures c.next-renewed.ensures.took c.keep.ensures.value c.keep.ensures.words_after in
+    let told = kept_answered (λ (s : State). next_call s (memory c.args.table.now (pools_of c.args.xy.now c.args.ends.now c.args.z.now c.args.m.now c.args.t.now c.args.tm.now))) c.args.state.now _ _ c.state_of.ensures c.next-renewed.ensures.took c.keep.ensures.value c.keep.ensures.words_after in
     search (rules, told)

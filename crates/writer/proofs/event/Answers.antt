@@ -1,6 +1,7 @@
 use mathlib.Core.Path.{◌≡◌, refl, sym, ap, ◌∙◌}
 use mathlib.Core.List.{List}
 use Prim.Native.Nat.{ℕ}
+use borrow.Author.Rules.{rules}
 use Rattle.std.proofs.lemmas.Result.{err_from_is_err_and}
 use Rattle.kinds.specs.declared.refusal.Refusal.{Refusal}
 use Rattle.kinds.specs.Refusal.{answer_of, refused}
@@ -21,8 +22,12 @@ unchanged s k bytes one refuses =
     let same = event_unchanged s k bytes (λ h. refuses (ap (λ (o : Outcome). o.wrote.number) one ∙ h)) in
     (λ i. outcome (wrote ((ap (λ (o : Outcome). o.wrote.number) one) i) s) ((ap (λ (o : Outcome). o.mem) (one ∙ same)) i)) ∙ sym same
 
+-- whatever gives the number, it is that of malformed bytes
+numbered : {n : ℕ} (s : State) (k : Mem) {called : Outcome} → n ≡ 11 → outcome (wrote 11 s) k ≡ called → outcome (wrote n s) k ≡ called
+numbered s k is one = ap (λ (n : ℕ). outcome (wrote n s) k) is ∙ one
+
 pub returns-then-bytes-ne64-clause-took : goal.returns-then-bytes-ne64-clause-took
-returns-then-bytes-ne64-clause-took c = malformed _ (memory c.args.table.now (pools_now c.args.pools.now)) _ refl (not_whole _ c.if-bytes-ne64.true)
+returns-then-bytes-ne64-clause-took c = numbered _ (memory c.args.table.now (pools_now c.args.pools.now)) (search rules) (malformed _ (memory c.args.table.now (pools_now c.args.pools.now)) _ refl (not_whole _ c.if-bytes-ne64.true))
 
 pub returns-in_err-took-clause-took : goal.returns-in_err-took-clause-took
 returns-in_err-took-clause-took c =
