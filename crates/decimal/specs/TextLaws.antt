@@ -1,17 +1,93 @@
--- The text that is printed is the number as it is to be read.
-use Rattle.std.specs.Prelude.{◌≡◌, refl, Bool, true, false, cond, List, [], ◌∷◌, ◌++◌, ℕ, zero, suc, ◌+◌, ◌-◌, ◌/◌, ◌%◌, ◌^◌, ◌≤◌, ◌<◌, length, replicate, decimal}
-use Rattle.std.specs.Fmt.{padded_integral, format_spec, char_count}
-use Rattle.std.proofs.Common.{sym, ap, ◌∙◌, append_assoc, append-nil, arith, mod-lt, lt-ltb, length-append, add-one}
-use Rattle.std.proofs.Math.Nat.{pow-succ'}
-use Rattle.std.proofs.lemmas.List.{replicate_more}
-use Rattle.std.proofs.lemmas.Fmt.{decimal_by_steps, length-decimal-le}
+-- Digits laid down from the last to the first, and the one text that a number has.
+use Rattle.std.specs.Prelude.{◌≡◌, refl, Bool, true, false, List, [], ◌∷◌, ◌++◌, ℕ, zero, suc, ◌+◌, ◌-◌, ◌/◌, ◌%◌, ◌^◌, ◌≤◌, ◌<◌, leb, length, get_or, take, drop, set, decimal, IsAscii}
+use Rattle.std.proofs.Common.{sym, ap, subst, ◌∙◌, append_assoc, append-nil, mod-lt, arith, length-set, length-append, length-drop, add-one, take_all, drop-cons, get_or-set_same, drop-set-lt, lt-ltb, leb-true, leb-false}
+use Rattle.std.proofs.Math.Nat.{pow-le-pow_right, pow-succ'}
+use Rattle.std.proofs.Math.Seq.{drop-length}
+use Rattle.std.proofs.lemmas.Fmt.{decimal_by_steps}
+use Rattle.std.proofs.lemmas.Str.{IsAscii-append}
+use Rattle.std.proofs.lemmas.Str.Ascii.{IsAscii-nil, IsAscii-from_all}
 use Rattle.laws.specs.Cond.{if_so}
 use Rattle.io.specs.Digits.{last_digits, hex_digit_ascii, IsDigitCount}
 use Rattle.decimal.specs.declared.Decimal.{Decimal}
 use Rattle.decimal.specs.Text.{Spelt, spelt, signed, pointed}
 
-glyph_of : (n : ℕ) → 48 + n % 10 ≡ hex_digit_ascii (n % 10)
+pub glyph_of : (n : ℕ) → 48 + n % 10 ≡ hex_digit_ascii (n % 10)
 glyph_of n = if_so (87 + n % 10) (lt-ltb (n % 10) 10 (mod-lt n (omega arith))) refl
+
+-- What stands from a place on, after a store there.
+pub stored : (l : List ℕ) (i v : ℕ) → i < length l → drop i (set l i v) ≡ v ∷ drop (suc i) l
+stored l i v h =
+    drop-cons (set l i v) i 0 (omega (arith, length-set l i v))
+    ∙ ap (λ (x : ℕ). x ∷ drop (suc i) (set l i v)) (get_or-set_same l i v 0 h)
+    ∙ ap (λ (x : List ℕ). v ∷ x) (drop-set-lt (suc i) l i v (omega arith))
+
+-- One digit more is laid down before those that stand.
+pub digit_more : (k n i : ℕ) (l : List ℕ) → i < length l
+    → last_digits 10 k (n / 10) ++ drop i (set l i (hex_digit_ascii (n % 10))) ≡ last_digits 10 (suc k) n ++ drop (suc i) l
+digit_more k n i l h =
+    ap (λ (x : List ℕ). last_digits 10 k (n / 10) ++ x) (stored l i (hex_digit_ascii (n % 10)) h)
+    ∙ sym (append_assoc (last_digits 10 k (n / 10)) (hex_digit_ascii (n % 10) ∷ []) (drop (suc i) l))
+
+-- The turns of a loop that lays down the digits from `from` on: what is left to lay, before what stands, comes to all of it.
+module _ (from i rest : ℕ) (l all : List ℕ) (so_far : last_digits 10 (i - from) rest ++ drop i l ≡ all) where
+  pub laid_more : (v : ℕ) → from < i → i ≤ length l → v ≡ hex_digit_ascii (rest % 10)
+      → last_digits 10 (i - 1 - from) (rest / 10) ++ drop (i - 1) (set l (i - 1) v) ≡ all
+  laid_more v more within is =
+      ap (λ (x : ℕ). last_digits 10 (i - 1 - from) (rest / 10) ++ drop (i - 1) (set l (i - 1) x)) is
+      ∙ digit_more (i - 1 - from) rest (i - 1) l (omega arith)
+      ∙ ap (λ (x : ℕ). last_digits 10 x rest ++ drop (suc (i - 1)) l) left
+      ∙ ap (λ (x : ℕ). last_digits 10 (i - from) rest ++ drop x l) here
+      ∙ so_far
+    where
+      left : suc (i - 1 - from) ≡ i - from
+      left = omega arith
+
+      here : suc (i - 1) ≡ i
+      here = omega arith
+
+  pub laid-all : i ≤ from → from ≤ i → drop from l ≡ all
+  laid-all done within =
+      ap (λ (x : ℕ). drop x l) here ∙ ap (λ (x : ℕ). last_digits 10 x rest ++ drop i l) none ∙ so_far
+    where
+      here : from ≡ i
+      here = omega arith
+
+      none : 0 ≡ i - from
+      none = omega arith
+
+-- Seven digits at the end of 29 bytes, the point before them, and the others before that.
+pub laid_out : (k w f : ℕ) (first behind before : List ℕ) → k ≤ 20 → length first ≡ 29 → length behind ≡ 29
+    → drop 22 behind ≡ last_digits 10 7 f ++ drop 29 first
+    → drop (21 - k) before ≡ last_digits 10 (21 - (21 - k)) w ++ drop 21 (set behind 21 46)
+    → drop (21 - k) before ≡ last_digits 10 k w ++ 46 ∷ last_digits 10 7 f
+laid_out k w f first behind before few sized same fraction laid =
+    laid
+    ∙ ap (λ (x : ℕ). last_digits 10 x w ++ drop 21 (set behind 21 46)) so_many
+    ∙ ap (λ (x : List ℕ). last_digits 10 k w ++ x) (stored behind 21 46 (omega arith))
+    ∙ ap (λ (x : List ℕ). last_digits 10 k w ++ 46 ∷ x) (fraction ∙ ap (λ (x : List ℕ). last_digits 10 7 f ++ x) end ∙ append-nil (last_digits 10 7 f))
+  where
+    so_many : 21 - (21 - k) ≡ k
+    so_many = omega arith
+
+    end : drop 29 first ≡ []
+    end = ap (λ (x : ℕ). drop x first) (sym sized) ∙ drop-length first
+
+-- A byte before what stands.
+pub put-before : (l : List ℕ) (i v : ℕ) → 0 < i → i ≤ length l → drop (i - 1) (set l (i - 1) v) ≡ v ∷ drop i l
+put-before l i v h g = stored l (i - 1) v (omega arith) ∙ ap (λ (x : ℕ). v ∷ drop x l) here
+  where
+    here : suc (i - 1) ≡ i
+    here = omega arith
+
+-- A word has twenty digits at most.
+pub few_places : (n k : ℕ) → n < 2 ^ 64 → IsDigitCount 10 1 n k → k ≤ 20
+few_places n k h fewest = go (leb k 20) refl
+  where
+    go : (b : Bool) → leb k 20 ≡ b → k ≤ 20
+    go true e = leb-true k 20 e
+    go false e =
+        let more : 20 < k = leb-false k 20 e in
+        omega (arith, fewest.2 (omega arith), pow-le-pow_right {n = 10} (omega arith) {i = 20} {j = k - 1} (omega arith))
 
 -- A number's own digits: as many as it has, and these the last of it.
 pub record OwnDigits (n : ℕ) (digits : List ℕ) : Type 0 where
@@ -58,85 +134,63 @@ own_digits = decimal_by_steps OwnDigits one (λ n ds h front. one_more n ds (ds 
           last = ap (λ (x : ℕ). x ∷ []) (ap (λ (x : ℕ). 48 + x) (sym same) ∙ glyph_of n);
         }
 
--- Zeros before a number's digits are digits of it.
-zeros : (k : ℕ) → replicate k 48 ≡ last_digits 10 k 0
-zeros zero = refl
-zeros (suc k) =
-    ap (λ (x : ℕ). replicate x 48) (sym (add-one k)) ∙ sym (replicate_more k 48) ∙ ap (λ (x : List ℕ). x ++ (48 ∷ [])) (zeros k)
-
-zeros_before : (k j n : ℕ) → n < 10 ^ k → replicate j 48 ++ last_digits 10 k n ≡ last_digits 10 (j + k) n
-zeros_before zero j n h =
-    let none : 0 ≡ n = omega arith in
-    let all : j ≡ j + 0 = omega arith in
-    append-nil (replicate j 48) ∙ zeros j ∙ ap (λ (x : ℕ). last_digits 10 x 0) all ∙ ap (λ (x : ℕ). last_digits 10 (j + 0) x) none
-zeros_before (suc k) j n h =
-    let front : n / 10 < 10 ^ k = omega (arith, pow-succ' 10 k) in
-    let all : suc (j + k) ≡ j + suc k = omega arith in
-    sym (append_assoc (replicate j 48) (last_digits 10 k (n / 10)) (hex_digit_ascii (n % 10) ∷ []))
-    ∙ ap (λ (x : List ℕ). x ++ (hex_digit_ascii (n % 10) ∷ [])) (zeros_before k j (n / 10) front)
-    ∙ ap (λ (x : ℕ). last_digits 10 x n) all
-
--- The last digits of a number are those of what is left of it below that power of ten.
-seven : (n : ℕ) → last_digits 10 7 (n % 10000000) ≡ last_digits 10 7 n
-seven n = rw (sixth, fifth, fourth, third, second, first, zeroth) refl
+-- A number has one count of digits.
+at_most : (n j k : ℕ) → IsDigitCount 10 1 n j → IsDigitCount 10 1 n k → k ≤ j
+at_most n j k one other = go (leb k j) refl
   where
-    sixth : n % 10000000 / 10 / 10 / 10 / 10 / 10 / 10 % 10 ≡ n / 10 / 10 / 10 / 10 / 10 / 10 % 10
-    sixth = omega arith
+    go : (b : Bool) → leb k j ≡ b → k ≤ j
+    go true e = leb-true k j e
+    go false e =
+        let more : j < k = leb-false k j e in
+        omega (arith, one.0, one.1, other.2 (omega (arith, one.0)), pow-le-pow_right {n = 10} (omega arith) {i = j} {j = k - 1} (omega arith))
 
-    fifth : n % 10000000 / 10 / 10 / 10 / 10 / 10 % 10 ≡ n / 10 / 10 / 10 / 10 / 10 % 10
-    fifth = omega arith
+same_count : (n j k : ℕ) → IsDigitCount 10 1 n j → IsDigitCount 10 1 n k → j ≡ k
+same_count n j k one other = omega (arith, at_most n j k one other, at_most n k j other one)
 
-    fourth : n % 10000000 / 10 / 10 / 10 / 10 % 10 ≡ n / 10 / 10 / 10 / 10 % 10
-    fourth = omega arith
-
-    third : n % 10000000 / 10 / 10 / 10 % 10 ≡ n / 10 / 10 / 10 % 10
-    third = omega arith
-
-    second : n % 10000000 / 10 / 10 % 10 ≡ n / 10 / 10 % 10
-    second = omega arith
-
-    first : n % 10000000 / 10 % 10 ≡ n / 10 % 10
-    first = omega arith
-
-    zeroth : n % 10000000 % 10 ≡ n % 10
-    zeroth = omega arith
-
--- What the hole `{:07}` writes.
-seven_written : (n : ℕ) → n < 10000000
-    → padded_integral (format_spec 32 0 4 7 (2 ^ 64 - 1)) false [] (decimal n) ≡ last_digits 10 7 n
-unfolding padded_integral char_count
-seven_written n h =
-    ap (λ (x : ℕ). replicate x 48 ++ (decimal n ++ [])) padding
-    ∙ ap (λ (x : List ℕ). replicate (7 - length (decimal n)) 48 ++ x) (append-nil (decimal n) ∙ own.last)
-    ∙ zeros_before (length (decimal n)) (7 - length (decimal n)) n own.fewest.1
-    ∙ ap (λ (x : ℕ). last_digits 10 x n) all
-  where
-    own : OwnDigits n (decimal n)
-    own = own_digits n (omega arith)
-
-    few : length (decimal n) ≤ 7
-    few = length-decimal-le 7 n (omega arith) (omega arith) (omega arith)
-
-    padding : 7 - length (decimal n) - 0 - 0 ≡ 7 - length (decimal n)
-    padding = omega arith
-
-    all : 7 - length (decimal n) + length (decimal n) ≡ 7
-    all = omega (arith, few)
-
-pub written : (negative : Bool) (d : Decimal) (sign : List ℕ) → d.whole < 2 ^ 64 → sign ≡ cond negative (45 ∷ []) []
-    → sign ++ (decimal d.whole ++ 46 ∷ padded_integral (format_spec 32 0 4 7 (2 ^ 64 - 1)) false [] (decimal (d.fraction % 10000000)))
-    ≡ spelt negative d
+-- What is spelt is one text.
+pub spelt-one : (negative : Bool) (d : Decimal) (text : List ℕ) → d.whole < 2 ^ 64 → Spelt negative d text → text ≡ spelt negative d
 unfolding spelt
-written negative d sign h is =
-    ap (λ (x : List ℕ). x ++ (decimal d.whole ++ 46 ∷ padded_integral (format_spec 32 0 4 7 (2 ^ 64 - 1)) false [] (decimal (d.fraction % 10000000)))) is
-    ∙ ap (λ (x : List ℕ). cond negative (45 ∷ []) [] ++ (decimal d.whole ++ 46 ∷ x)) (seven_written (d.fraction % 10000000) (mod-lt d.fraction (omega arith)) ∙ seven d.fraction)
-    ∙ ap (λ (x : List ℕ). cond negative (45 ∷ []) [] ++ (x ++ 46 ∷ last_digits 10 7 d.fraction)) (own_digits d.whole h).last
-    ∙ signed-is negative (pointed (length (decimal d.whole)) d)
-  where
-    signed-is : (b : Bool) (text : List ℕ) → cond b (45 ∷ []) [] ++ text ≡ signed b text
-    signed-is true text = refl
-    signed-is false text = refl
+spelt-one negative d text h is =
+    is.reads
+    ∙ ap (λ (k : ℕ). signed negative (pointed k d)) (same_count d.whole is.places (length (decimal d.whole)) is.fewest (own_digits d.whole h).fewest)
 
 pub spelt_is : (negative : Bool) (d : Decimal) → d.whole < 2 ^ 64 → Spelt negative d (spelt negative d)
 unfolding spelt
 spelt_is negative d h = record { places = length (decimal d.whole); fewest = (own_digits d.whole h).fewest; reads = refl }
+
+-- What is spelt is ASCII.
+one-ascii : (b : ℕ) → b < 128 → IsAscii (b ∷ [])
+one-ascii b h = IsAscii-from_all (b ∷ []) alone
+  where
+    alone : (k d : ℕ) → k < 1 → get_or (b ∷ []) k d < 128
+    alone zero d within = h
+    alone (suc k) d within = omega (arith, within)
+
+digits-ascii : (k n : ℕ) → IsAscii (last_digits 10 k n)
+digits-ascii zero n = IsAscii-nil
+digits-ascii (suc k) n =
+    IsAscii-append
+    (last_digits 10 k (n / 10))
+    (hex_digit_ascii (n % 10) ∷ [])
+    (digits-ascii k (n / 10))
+    (one-ascii (hex_digit_ascii (n % 10)) (omega (arith, glyph_of n, mod-lt n {m = 10} (omega arith))))
+
+pointed-ascii : (k : ℕ) (d : Decimal) → IsAscii (pointed k d)
+pointed-ascii k d =
+    IsAscii-append
+    (last_digits 10 k d.whole)
+    (46 ∷ last_digits 10 7 d.fraction)
+    (digits-ascii k d.whole)
+    (IsAscii-append (46 ∷ []) (last_digits 10 7 d.fraction) (one-ascii 46 (omega arith)) (digits-ascii 7 d.fraction))
+
+signed-ascii : (negative : Bool) (text : List ℕ) → IsAscii text → IsAscii (signed negative text)
+signed-ascii true text is = IsAscii-append (45 ∷ []) text (one-ascii 45 (omega arith)) is
+signed-ascii false text is = is
+
+pub spelt-ascii : (negative : Bool) (d : Decimal) (text : List ℕ) → Spelt negative d text → IsAscii text
+spelt-ascii negative d text is =
+    subst IsAscii (sym is.reads) (signed-ascii negative (pointed is.places d) (pointed-ascii is.places d))
+
+-- The end of 29 bytes, as it is lent.
+pub lent-end : (l : List ℕ) (k : ℕ) → length l ≡ 29 → take (29 - k) (drop k l) ≡ drop k l
+lent-end l k h = take_all (29 - k) (drop k l) (omega (arith, length-drop k l))

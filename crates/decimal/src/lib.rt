@@ -10,7 +10,7 @@ ghost use Rattle.std.specs.Prelude.{◌≡◌};
 ghost use Rattle.decimal.specs.Magnitude.{of_double, of_float};
 
 pub use format::{DOUBLE, FLOAT, Format};
-pub use text::Signed;
+pub use text::{Signed, TEXT_BYTES, spell};
 
 // Ten-millionths in one.
 const ONE: u64 = 10000000;
