@@ -6,6 +6,7 @@ mod lay;
 ghost use Rattle.std.specs.Prelude.{◌≡◌};
 ghost use Rattle.kinds.specs.ColumnType.{type_number};
 ghost use Rattle.property_value.specs.Refused.{Told};
+ghost use Rattle.property_value.specs.Value.{Checked};
 ghost use Rattle.property_writer.specs.Writing.{put_as, put_of, bytes_after, property_length, Judged};
 
 use kinds::column_type::ColumnType;
@@ -70,13 +71,23 @@ fn judge(
     if is_malformed(property.kind, property.bits) {
         return Err(PropertyRefusal::Other(Refusal::Malformed));
     }
-    if let Some(place) = bad_text(property.kind, property.text) {
+    if let Some(place) = bad_if_text(property.kind, property.text) {
         return Err(PropertyRefusal::NotUtf8(place));
     }
     if used as usize + property_length(kind, property.text) > usable_length(lent) {
         return Err(PropertyRefusal::Other(Refusal::NoRoom));
     }
     Ok(kind)
+}
+
+// A number has no text, and is spared the call.
+fn bad_if_text(kind: u8, text: &[u8]) -> Option<usize>
+    ensures { Checked kind text.now result }
+{
+    if kind < ColumnType::String.number() {
+        return None;
+    }
+    bad_text(kind, text)
 }
 
 fn property_length(kind: ColumnType, text: &[u8]) -> usize

@@ -84,7 +84,7 @@ returns-then-used-property_length c =
     index
     c.is_malformed.ensures
     c.if-is_malformed.false
-    c.in_default-bad_text.ensures
+    c.in_default-bad_if_text.ensures
     (rw c.in-Ok.ensures at c.property_length.ensures)
     c.usable_length.ensures in
     rw (r, lt-ltb _ _ c.if-used-property_length.true) (refl, refl, proper NoRoom (λ six. omega arith))
@@ -101,7 +101,7 @@ returns c =
     index
     c.is_malformed.ensures
     c.if-is_malformed.false
-    c.in_default-bad_text.ensures
+    c.in_default-bad_if_text.ensures
     (rw c.in-Ok.ensures at c.property_length.ensures)
     c.usable_length.ensures in
     (rw (r, le-ltb _ _ c.if-used-property_length.false), c.in-Ok.ensures)
