@@ -1,5 +1,5 @@
 -- The coordinates of a record that has an xy list and no other, as they are read with no flag set.
-use Rattle.std.specs.Prelude.{◌≡◌, refl, Bool, true, List, [], ℕ, ◌+◌, ◌*◌, ◌/◌, ◌%◌, ◌<◌, ◌≤◌, length, take, drop, get_or}
+use Rattle.std.specs.Prelude.{◌≡◌, refl, Bool, true, List, [], ℕ, ◌+◌, ◌-◌, ◌*◌, ◌/◌, ◌%◌, ◌<◌, ◌≤◌, length, take, drop, get_or}
 use Rattle.std.proofs.Common.{arith}
 use Rattle.std.proofs.Math.Bool.{false}
 use Rattle.std.proofs.Math.Option.{none, some}
@@ -38,19 +38,30 @@ lone_coords_lem F P kind start count plain =
       lanes = record { z = unseen F.z i; m = unseen F.m i; t = unseen F.t i; tm = unseen F.tm i };
     }
 
+-- ---- the words from place i on, the first pair of which has the number idx
+module _ (l : List ℕ) (i idx : ℕ) where
+  pub lone_end : length l ≤ i → lone_s (drop i l) idx ≡ stop 0
+  lone_end h = coords_end false no_lanes l i idx 0 h
+
+  pub lone_odd : i < length l → length l - i < 2 → lone_s (drop i l) idx ≡ stop 7
+  lone_odd h k = coords_odd false no_lanes l i idx 0 h k
+
+  pub lone_next : {e : Event} → 2 ≤ length l - i → e ≡ xy_e (get_or l i 0) (get_or l (i + 1) 0) idx → lone_s (drop i l) idx ≡ one e ⨟ lone_s (drop (i + 2) l) (idx + 1)
+  unfolding pair_s ◌⨟◌
+  lone_next two e = rw e (coords_two false no_lanes l i idx 0 two)
+
 -- ---- the pairs from number i on, by one turn of the loop that says them
 module _ (l : List ℕ) (i : ℕ) where
   pub lone_over : length l / 2 ≤ i → length l % 2 ≡ 0 → lone_s (drop (2 * i) l) i ≡ stop 0
-  lone_over h e = coords_end false no_lanes l (2 * i) i 0 (omega arith)
+  lone_over h e = lone_end l (2 * i) i (omega arith)
 
-  pub lone_odd : i ≡ length l / 2 → (length l % 2 ≡ 0 → ⊥) → lone_s (drop (2 * i) l) i ≡ stop 7
-  lone_odd h e = coords_odd false no_lanes l (2 * i) i 0 (omega arith) (omega arith)
+  pub lone_cut : i ≡ length l / 2 → (length l % 2 ≡ 0 → ⊥) → lone_s (drop (2 * i) l) i ≡ stop 7
+  lone_cut h e = lone_odd l (2 * i) i (omega arith) (omega arith)
 
-  pub lone_next : (e : Event) → i < length l / 2 → e ≡ xy_e (get_or l (2 * i) 0) (get_or l (2 * i + 1) 0) i → lone_s (drop (2 * i) l) i ≡ one e ⨟ lone_s (drop (2 * (i + 1)) l) (i + 1)
-  unfolding pair_s ◌⨟◌
-  lone_next e h is =
+  pub lone_turn : (e : Event) → i < length l / 2 → e ≡ xy_e (get_or l (2 * i) 0) (get_or l (2 * i + 1) 0) i → lone_s (drop (2 * i) l) i ≡ one e ⨟ lone_s (drop (2 * (i + 1)) l) (i + 1)
+  lone_turn e h is =
       let d : 2 * (i + 1) ≡ 2 * i + 2 = omega arith in
-      rw (is, d, coords_two false no_lanes l (2 * i) i 0 (omega arith))
+      rw d (lone_next l (2 * i) i (omega arith) is)
 
 -- ---- a begin, the pairs, an end; and around them the polygon's
 pub lone_line : (l : List ℕ) → flat_s (lone_coords l) 2 false 0 ≡ framed (begin_e 2 false (length l / 2) 0) (lone_s l 0) (end_e 2 false 0)
