@@ -1,5 +1,5 @@
 -- The coordinates of a record that has an xy list and no other, as they are read with no flag set.
-use Rattle.std.specs.Prelude.{◌≡◌, refl, Bool, true, List, [], ℕ, ◌+◌, ◌*◌, ◌/◌, ◌%◌, ◌<◌, ◌≤◌, length, take, drop, get_or}
+use Rattle.std.specs.Prelude.{◌≡◌, refl, Bool, true, List, [], ℕ, ◌+◌, ◌-◌, ◌*◌, ◌/◌, ◌%◌, ◌<◌, ◌≤◌, length, take, drop, get_or}
 use Rattle.std.proofs.Common.{arith}
 use Rattle.std.proofs.Math.Bool.{false}
 use Rattle.std.proofs.Math.Option.{none, some}
@@ -13,7 +13,7 @@ use Rattle.store.specs.Lists.{Pools, lists_of}
 use Rattle.geometries.specs.Coordinate.{multi}
 use Rattle.coords.specs.Coords.{Lanes, Coords, seen, coords_of, pair_s, coords_s}
 use Rattle.lines.specs.Lines.{flat_o, flat_s, rings_s, stretches_s}
-use Rattle.coords.specs.CoordLaws.{plain-pairs}
+use Rattle.coords.specs.CoordLaws.{coords_end, coords_odd, coords_two, plain-pairs}
 use Rattle.event_log.specs.Pairs.{xy_s}
 
 abbrev pub no_lanes : Lanes
@@ -38,6 +38,18 @@ lone_coords_lem F P kind start count plain =
       xy = some (take count (drop start P.xy));
       lanes = record { z = unseen F.z i; m = unseen F.m i; t = unseen F.t i; tm = unseen F.tm i };
     }
+
+-- ---- the words from place i on, the first pair of which has the number idx
+module _ (l : List ℕ) (i idx : ℕ) where
+  pub lone_end : length l ≤ i → lone_s (drop i l) idx ≡ stop 0
+  lone_end h = coords_end false no_lanes l i idx 0 h
+
+  pub lone_odd : i < length l → length l - i < 2 → lone_s (drop i l) idx ≡ stop 7
+  lone_odd h k = coords_odd false no_lanes l i idx 0 h k
+
+  pub lone_next : {e : Event} → 2 ≤ length l - i → e ≡ xy_e (get_or l i 0) (get_or l (i + 1) 0) idx → lone_s (drop i l) idx ≡ one e ⨟ lone_s (drop (i + 2) l) (idx + 1)
+  unfolding pair_s ◌⨟◌
+  lone_next two e = rw e (coords_two false no_lanes l i idx 0 two)
 
 -- ---- the pairs, as a log says them
 pub lone-said : (l : List ℕ) → lone_s l 0 ≡ xy_s l 0 0
