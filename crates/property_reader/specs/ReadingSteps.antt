@@ -69,11 +69,11 @@ module _ {bytes columns : List ℕ} {last : ℕ} {a b : Log Values} {at : ℕ} (
   bad_on : (i : Item) → i ≡ item_at bytes columns at → bad_from bytes columns last 0 ≡ on_item end_place keep_place last (bad_from bytes columns last) i
   bad_on i e = g.same_bad ∙ here end_place keep_place i e
 
-  skipped_ahead : (next : ℕ) → Skipped next ≡ item_at bytes columns at → (at < next) × (next ≤ length bytes)
+  pub skipped_ahead : (next : ℕ) → Skipped next ≡ item_at bytes columns at → (at < next) × (next ≤ length bytes)
   unfolding Ahead
   skipped_ahead next e = rw (← e) at (ahead bytes columns at)
 
-  found_ahead : (value : Value) (next : ℕ) → Found value next ≡ item_at bytes columns at → (at < next) × (next ≤ length bytes)
+  pub found_ahead : (value : Value) (next : ℕ) → Found value next ≡ item_at bytes columns at → (at < next) × (next ≤ length bytes)
   unfolding Ahead
   found_ahead value next e = rw (← e) at (ahead bytes columns at)
 

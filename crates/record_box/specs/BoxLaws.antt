@@ -70,11 +70,11 @@ module _ (table : List ℕ) (P : Pools) (n : ℕ) {first : Box} (q : first ≡ b
         (λ i. walk (parts-by-lent table P i) (own-by-lent table P i) beginning)
         ∙ ap (walk (parts_lent table (lent_of P)) (own_lent table (lent_of P) P.xy)) (sym q) ∙ h
 
-    refused_box : (c ≡ 0 → ⊥) → boxed (refused c) ≡ box_of get n
+    pub refused_box : (c ≡ 0 → ⊥) → boxed (refused c) ≡ box_of get n
     unfolding box_of
     refused_box z = ap boxed (sym (so_refused (box_grows get) (parts_by get) agreed went_so z))
 
-    went_box : c ≡ 0 → boxed (went b) ≡ box_of get n
+    pub went_box : c ≡ 0 → boxed (went b) ≡ box_of get n
     unfolding box_of
     went_box z = ap boxed (sym (so_went (box_grows get) (parts_by get) agreed went_so z))
 
