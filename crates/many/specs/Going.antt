@@ -15,15 +15,13 @@ use Rattle.runs.specs.Events.{Took, Progress, took, progress, events_from, event
 use Rattle.pending.specs.Words.{Pending}
 use Rattle.writing.specs.declared.state.State.{State}
 use Rattle.writing.specs.State.{wrote_of, Wrote, Mem, memory, with_feature, with_pending, Outcome, outcome, wrote}
-use Rattle.pools.specs.declared.pools_mut.PoolsMut.{PoolsMut}
-use Rattle.pools.specs.PoolsMut.{pools_now}
 use Rattle.writing.specs.Calls.{is_ready, event_call}
 use Rattle.writing.specs.Apart.{is-ready, was_ready}
 use Rattle.writing.specs.Ends.{malformed}
 use Rattle.runs.specs.Plain.{blocked_by, blocked_refuses, amid}
 use Rattle.writing.specs.Ready.{same-ready, event-ready}
 use Rattle.writing.specs.Refused.{event_unchanged}
-use Rattle.runs.specs.Run.{Values, values_in, mem_with, Beside, Run, BlockedAt}
+use Rattle.runs.specs.Run.{Values, mem_with, Run, BlockedAt}
 
 pub record Going (bytes : List ℕ) (held : ℕ) (s₀ : State) (k₀ : Mem) (ready : Bool) (taken : ℕ) (s : State) (k : Mem) : Type 0 where
   pub in_hand_lem : s.feature ≡ Some held
@@ -57,13 +55,6 @@ at-run {bytes} {held} {from} {s} {table} {ends} {v} {taken} {p} {v'} so_far run 
           ∙ ap (λ (t : State). events_from (records_in bytes - from) from bytes t (mem_with table ends v)) (sym (as_amid s s.pending so_far.in_hand_lem))
           ∙ so_far.rest;
     }
-
--- in pools that hold the same ends
-pub after_run : {bytes : List ℕ} {held : ℕ} {s₀ : State} {k₀ : Mem} {ready : Bool} {from : ℕ} {s : State} {table : List ℕ} {pools pools' : PoolsMut} {taken : ℕ} {p : Pending}
-    → Going bytes held s₀ k₀ ready from s (memory table (pools_now pools)) → Beside pools pools' → Run bytes ready held from s.pending (values_in pools) taken p (values_in pools') → Going bytes held s₀ k₀ ready taken (with_pending s p) (memory table (pools_now pools'))
-after_run {bytes} {held} {s₀} {k₀} {ready} {s = s} {table} {pools} {pools'} {taken} {p} so_far beside run =
-    subst (λ (ends : List ℕ). Going bytes held s₀ k₀ ready taken (with_pending s p) (mem_with table ends (values_in pools'))) (sym beside.ends)
-    (at-run {s = s} {table = table} {ends = pools.ends.now} {v = values_in pools} so_far run)
 
 module _ {bytes : List ℕ} {held : ℕ} {s₀ : State} {k₀ : Mem} {ready : Bool} {taken : ℕ} {s : State} {k : Mem} (so_far : Going bytes held s₀ k₀ ready taken s k) where
   -- ---- a record that is left: it is refused, or taken

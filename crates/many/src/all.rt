@@ -8,7 +8,7 @@ use event_log::no_rest;
 use frames::take_other;
 use kinds::refusal::Refusal;
 use pools::PoolsMut;
-use runs::{Stop, Took, take_plain, why_blocked};
+use runs::{Stop, Took, ValuesMut, take_plain, why_blocked};
 use writing::ready::is_ready;
 use writing::state::State;
 
@@ -23,7 +23,14 @@ pub fn take_all(s: State, held: u32, bytes: &[u8], table: &mut [u8], pools: &mut
     let mut state = s;
     let mut taken = 0;
     loop {
-        let run = take_plain(bytes, taken, ready, held, state.pending, pools);
+        let mut values = ValuesMut {
+            xy: pools.xy,
+            z: pools.z,
+            m: pools.m,
+            t: pools.t,
+            tm: pools.tm,
+        };
+        let run = take_plain(bytes, taken, ready, held, state.pending, &mut values);
         state.pending = run.pending;
         taken = run.taken;
         let answer = match run.stop {

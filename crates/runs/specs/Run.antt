@@ -27,7 +27,7 @@ use Rattle.pending.specs.Room.{room_in, has_room, and_true, room_tested, room_ap
 use Rattle.writing.specs.Calls.{is_ready, table_after, mem_after, event_with, event_call}
 use Rattle.pending.specs.Growth.{grown, grown_all, grown_values}
 use Rattle.pools.specs.declared.pools_mut.PoolsMut.{PoolsMut}
-use Rattle.pools.specs.PoolsMut.{SamePools}
+use Rattle.runs.specs.declared.values_mut.ValuesMut.{ValuesMut}
 use Rattle.writing.specs.Ends.{well_formed_lem, another_feature}
 use Rattle.runs.specs.Events.{events_from, went_on}
 use Rattle.runs.specs.Plain.{blocked_by, blocked_refuses, blocked_number, amid, PlainEvent, pair-plain, coordinate-plain, quiet_plain, plain_decides}
@@ -48,10 +48,16 @@ values_of xy z m t tm = record { xy = xy; z = z; m = m; t = t; tm = tm }
 abbrev pub values_in : PoolsMut → Values
 values_in p = values_of p.xy.now p.z.now p.m.now p.t.now p.tm.now
 
--- the same slices, and the ends as they were
-pub record Beside (before after : PoolsMut) : Type 0 where
-  pub slices : SamePools before after
-  pub ends : after.ends.now ≡ before.ends.now
+abbrev pub values_now : ValuesMut → Values
+values_now v = values_of v.xy.now v.z.now v.m.now v.t.now v.tm.now
+
+-- the same slices
+pub record SameValues (before after : ValuesMut) : Type 0 where
+  pub xy : after.xy.ghost_name ≡ before.xy.ghost_name
+  pub z : after.z.ghost_name ≡ before.z.ghost_name
+  pub m : after.m.ghost_name ≡ before.m.ghost_name
+  pub t : after.t.ghost_name ≡ before.t.ghost_name
+  pub tm : after.tm.ghost_name ≡ before.tm.ghost_name
 
 abbrev pub mem_with : List ℕ → List ℕ → Values → Mem
 mem_with table ends v = mem_of table v.xy ends v.z v.m v.t v.tm

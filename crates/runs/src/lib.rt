@@ -5,8 +5,10 @@ mod alone;
 mod blocked;
 mod run;
 mod took;
+mod values_mut;
 
 pub use alone::take_alone;
 pub use blocked::why_blocked;
 pub use run::{Reached, Stop, take_plain};
 pub use took::Took;
+pub use values_mut::ValuesMut;

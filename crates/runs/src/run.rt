@@ -4,9 +4,9 @@ ghost use Rattle.std.specs.Prelude.{◌≡◌, true, cond, [], ◌∷◌, ◌/�
 ghost use Rattle.std.proofs.lemmas.List.Edits.{sets};
 ghost use Rattle.pending.specs.Words.{used};
 ghost use Rattle.pending.specs.Growth.{grown_values};
-ghost use Rattle.pools.specs.PoolsMut.{SamePools};
-ghost use Rattle.runs.specs.Run.{values_room, values_in, pushed, lent_values, Ran, Beside};
+ghost use Rattle.runs.specs.Run.{values_room, values_now, pushed, lent_values, Ran, SameValues};
 
+use crate::values_mut::ValuesMut;
 use asking::ask::{Added, pair_with};
 use kinds::event::{Event, Heard};
 use kinds::lanes::Lent;
@@ -14,7 +14,6 @@ use kinds::usable;
 use pending::growth::grown_values;
 use pending::room::lane_room;
 use pending::words::{Pending, Words};
-use pools::PoolsMut;
 
 // Why a run goes no further.
 #[derive(Clone, Copy)]
@@ -49,17 +48,17 @@ fn values_room(p: Pending, a: Added, pools: Lent) -> bool
 }
 
 // Lays a coordinate down behind the pending words: what is pending then.
-fn push_values(p: Pending, added: Added, e: Event, pools: &mut PoolsMut) -> Pending
-    requires { let lent = lent_values (values_in pools.old) in lent p added ≡ true }
+fn push_values(p: Pending, added: Added, e: Event, values: &mut ValuesMut) -> Pending
+    requires { let lent = lent_values (values_now values.old) in lent p added ≡ true }
     ensures pending { result ≡ grown_values p added }
-    ensures beside { Beside pools.old pools.new }
-    ensures values { values_in pools.new ≡ pushed (values_in pools.old) p added e }
+    ensures same { SameValues values.old values.new }
+    ensures values { values_now values.new ≡ pushed (values_now values.old) p added e }
 {
-    pools::push_pair(pools.xy, p.xy, added.xy, e.x, e.y);
-    pools::push_word(pools.z, p.z, added.z, e.z);
-    pools::push_word(pools.m, p.m, added.m, e.m);
-    pools::push_word(pools.t, p.t, added.t, e.t);
-    pools::push_word(pools.tm, p.tm, added.tm, e.tm);
+    pools::push_pair(values.xy, p.xy, added.xy, e.x, e.y);
+    pools::push_word(values.z, p.z, added.z, e.z);
+    pools::push_word(values.m, p.m, added.m, e.m);
+    pools::push_word(values.t, p.t, added.t, e.t);
+    pools::push_word(values.tm, p.tm, added.tm, e.tm);
     grown_values(p, added)
 }
 
@@ -70,13 +69,13 @@ pub fn take_plain(
     ready: bool,
     held: u32,
     p: Pending,
-    pools: &mut PoolsMut,
+    values: &mut ValuesMut,
 ) -> Reached
     requires { from ≤ length bytes.now / 64 }
-    ensures ran { Ran bytes.now ready held from p (values_in pools.old) result (values_in pools.new) }
-    ensures beside { Beside pools.old pools.new }
+    ensures ran { Ran bytes.now ready held from p (values_now values.old) result (values_now values.new) }
+    ensures same { SameValues values.old values.new }
 {
-    let lent = pools.lent();
+    let lent = values.lent();
     let whole = bytes.len() / 64;
     let mut pending = p;
     for taken in from..whole {
@@ -93,7 +92,7 @@ pub fn take_plain(
                         stop: Stop::Blocked { own },
                     };
                 }
-                pools::push_pair(pools.xy, pending.xy, true, x, y);
+                pools::push_pair(values.xy, pending.xy, true, x, y);
                 pending.xy.count += Words::PAIR;
                 continue;
             }
@@ -106,7 +105,7 @@ pub fn take_plain(
                         stop: Stop::Blocked { own },
                     };
                 }
-                pending = push_values(pending, added, e, pools);
+                pending = push_values(pending, added, e, values);
                 continue;
             }
             Heard::Quiet => {

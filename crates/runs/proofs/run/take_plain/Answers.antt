@@ -1,6 +1,6 @@
 use mathlib.Core.Path.{◌≡◌, sym, ap, ◌∙◌}
 use mathlib.Core.Bool.{Bool, ◌&&◌}
-use mathlib.Core.List.{List}
+use mathlib.Core.List.{List, []}
 use Prim.Native.Nat.{ℕ, ◌+◌, ◌*◌, ◌-◌, ◌/◌, ◌<◌}
 use native.Mathlib.Omega.{arith}
 use lib.ListN.{length, take, drop}
@@ -10,16 +10,13 @@ use borrow.Author.Tests.{ne_eqb}
 use Rattle.kinds.specs.Event.{told_apart}
 use Rattle.kinds.specs.declared.event.Heard.{Heard}
 use Rattle.kinds.specs.Lanes.{Lent}
-use Rattle.store.specs.Lists.{lent_of}
 use Rattle.event_log.specs.Log.{heard, feature_in, record_of}
 use Rattle.event_log.specs.LogLaws.{Behind, behind}
 use Rattle.asking.specs.Ask.{Added}
 use Rattle.pending.specs.Words.{Pending}
 use Rattle.pending.specs.Growth.{grown_values}
-use Rattle.pools.specs.declared.pools_mut.PoolsMut.{PoolsMut}
-use Rattle.pools.specs.PoolsMut.{pools_now}
 use Rattle.writing.specs.Other.{other-below}
-use Rattle.runs.specs.Run.{Values, values_in, values_room, lent_values, pair_room, pushed, Run, whole_record, pair-taken, pair_blocked, quiet_taken, quiet_blocked, coordinate-taken, coordinate_blocked, another_blocked}
+use Rattle.runs.specs.Run.{Values, lent_with, values_now, values_room, lent_values, pair_room, pushed, Run, whole_record, pair-taken, pair_blocked, quiet_taken, quiet_blocked, coordinate-taken, coordinate_blocked, another_blocked}
 use Rattle.runs.proofs.run.take_plain.Goals as goal
 
 -- a turn's record is heard, under its number
@@ -30,7 +27,7 @@ told_as : (bytes : List ℕ) (taken : ℕ) (r h : Heard) → r ≡ told_apart (h
 told_as bytes taken r h e is = behind (record_of bytes taken) h (sym (e ∙ ap (λ (l : List ℕ). told_apart (heard l)) (whole_record bytes taken)) ∙ is)
 
 -- the tests of room, of what was lent when the run began: no list changes its length
-module _ {bytes : List ℕ} {ready : Bool} {held from : ℕ} {p : Pending} (pools : PoolsMut) {taken : ℕ} {p' : Pending} {v' : Values} (so_far : Run bytes ready held from p (values_in pools) taken p' v') {lent : Lent} (lent_is : lent ≡ lent_of (pools_now pools)) (due : Bool) {room told : Bool} where
+module _ {bytes : List ℕ} {ready : Bool} {held from : ℕ} {p : Pending} {v : Values} {taken : ℕ} {p' : Pending} {v' : Values} (so_far : Run bytes ready held from p v taken p' v') {lent : Lent} (lent_is : lent ≡ lent_with [] v) (due : Bool) {room told : Bool} where
   pair_told : room ≡ pair_room p' lent.xy → (due && room) ≡ told → (due && pair_room p' (length v'.xy)) ≡ told
   pair_told is e = ap (λ (b : Bool). due && b) (sym (is ∙ ap (pair_room p') (ap (λ (l : Lent). l.xy) lent_is ∙ sym so_far.long_xy))) ∙ e
 
@@ -49,7 +46,7 @@ returns-then-not-due-lane_room-clause-ran c =
     record {
       run = run;
       stop = pair_blocked run more (number_is c.args.bytes.now c.loop-taken.taken _ c.feature_in.ensures) (told_as c.args.bytes.now c.loop-taken.taken _ _ c.hear.ensures c.in-Pair.is)
-          (pair_told c.args.pools.now run c.lent-lent.ensures _ c.lane_room.ensures c.if-not-due-lane_room.true);
+          (pair_told run c.lent-lent.ensures _ c.lane_room.ensures c.if-not-due-lane_room.true);
     }
 
 pub loop-taken-preserved-in-Pair : goal.loop-taken-preserved-in-Pair
@@ -57,7 +54,7 @@ loop-taken-preserved-in-Pair c =
     let run = c.loop-taken.invariant.0 in
     let more : c.loop-taken.taken < length c.args.bytes.now / 64 = omega arith in (
       pair-taken run more (number_is c.args.bytes.now c.loop-taken.taken _ c.feature_in.ensures) (told_as c.args.bytes.now c.loop-taken.taken _ _ c.hear.ensures c.in-Pair.is)
-          (pair_told c.args.pools.now run c.lent-lent.ensures _ c.lane_room.ensures c.if-not-due-lane_room.false) c.push_pair.ensures,
+          (pair_told run c.lent-lent.ensures _ c.lane_room.ensures c.if-not-due-lane_room.false) c.push_pair.ensures,
       search rules,
     )
 
@@ -68,7 +65,7 @@ returns-then-not-due-values_room-clause-ran c =
     record {
       run = run;
       stop = coordinate_blocked run more (number_is c.args.bytes.now c.loop-taken.taken _ c.feature_in.ensures) c.in-Coordinate.e (told_as c.args.bytes.now c.loop-taken.taken _ _ c.hear.ensures c.in-Coordinate.is)
-          (values_told c.args.pools.now run c.lent-lent.ensures _ c.values_room.ensures c.pair_with-added.ensures c.if-not-due-values_room.true);
+          (values_told run c.lent-lent.ensures _ c.values_room.ensures c.pair_with-added.ensures c.if-not-due-values_room.true);
     }
 
 pub loop-taken-preserved-in-Coordinate : goal.loop-taken-preserved-in-Coordinate
@@ -78,9 +75,9 @@ loop-taken-preserved-in-Coordinate c =
     let push = c.push_values-pending.ensures in
     let more : c.loop-taken.taken < length c.args.bytes.now / 64 = omega arith in (
       coordinate-taken run more (number_is c.args.bytes.now c.loop-taken.taken _ c.feature_in.ensures) c.in-Coordinate.e (told_as c.args.bytes.now c.loop-taken.taken _ _ c.hear.ensures c.in-Coordinate.is)
-          (values_told c.args.pools.now run c.lent-lent.ensures _ c.values_room.ensures asked c.if-not-due-values_room.false)
+          (values_told run c.lent-lent.ensures _ c.values_room.ensures asked c.if-not-due-values_room.false)
           (push.pending ∙ ap (grown_values c.loop-taken.pending) asked)
-          (push.values ∙ ap (λ (a : Added). pushed (values_in c.loop-taken.pools) c.loop-taken.pending a c.in-Coordinate.e) asked),
+          (push.values ∙ ap (λ (a : Added). pushed (values_now c.loop-taken.values) c.loop-taken.pending a c.in-Coordinate.e) asked),
       search rules,
     )
 
