@@ -1,10 +1,13 @@
 -- Where a part of a reading has led: on, with the bytes that are left, or off, with a refusal; and what it has said to the log by then. Code
 -- reads part by part, and each law here is one way in which parts make a whole.
-use Rattle.std.specs.Prelude.{◌≡◌, refl, ℕ, suc, ◌+◌, ◌-◌, ◌<◌, ◌≤◌, List, length, Result}
-use Rattle.std.proofs.Common.{ap, sym, ◌∙◌, Ok, Err, arith, le-leb}
+use Rattle.std.specs.Prelude.{◌≡◌, refl, ℕ, suc, ◌+◌, ◌-◌, ◌<◌, ◌≤◌, List, length, drop, Result}
+use Rattle.std.proofs.Common.{ap, sym, ◌∙◌, Ok, Err, arith, le-leb, length-drop, drop-drop}
+use Rattle.std.proofs.Math.Decide.{dec_le}
 use Rattle.std.proofs.lemmas.Bool.{lt-leb}
 use Rattle.laws.specs.Script.{Script, stop, one, Out, out, run, ◌⨟◌, seq_done, seq_refused, run_stop}
+use Rattle.kinds.specs.Event.{xy_e}
 use Rattle.kinds.specs.declared.event.Event.{Event}
+use Rattle.kinds.specs.declared.event.Xy.{Xy}
 use Rattle.kinds.specs.declared.refusal.Refusal.{Refusal}
 use Rattle.kinds.specs.Refusal.{number_of, refused}
 use Rattle.event_log.specs.Says.{Says, of_events}
@@ -12,8 +15,8 @@ use Rattle.event_log.specs.declared.log.Log.{Log}
 use Rattle.event_log.specs.declared.layouts.Events.{Events}
 use Rattle.wkb.specs.declared.order.Order.{Order}
 use Rattle.wkb_reader.specs.declared.input.Input.{Input}
-use Rattle.wkb_reader.specs.Fields.{FieldIs}
-use Rattle.wkb_reader.specs.Reading.{Next, Reads, saying, refuse, ◌⊳◌, field, several}
+use Rattle.wkb_reader.specs.Fields.{FieldIs, PairIs}
+use Rattle.wkb_reader.specs.Reading.{Next, Reads, saying, refuse, ◌⊳◌, field, several, pair_r}
 
 -- what a log comes to: whatever follows is said of the bytes that are left, or a refusal is all
 abbrev pub onward : {T : Type 0} → Result T Refusal → Next → List ℕ → Log Events → Out
@@ -64,6 +67,30 @@ module _ (order : Order) (wide : ℕ) (f : ℕ → Reads) (i j : Input) where
   pub cut_leads : {T : Type 0} {e : Refusal} (a : Log Events) (k : Input) → FieldIs order wide i j (Err e) → Leads {T = T} (field order wide f) a i a k (Err e)
   cut_leads {e = e} a k cut = record { memory = refl; layout = refl; runs = λ next. ap (λ (s : Script Event). run (of_events a.layout) s a.bytes.now a.count) (field_cut next cut) ∙ run_stop (of_events a.layout) (number_of e) a.bytes.now a.count }
 
+-- ---- a pair: its two fields at once
+module _ (order : Order) (idx : ℕ) (i j : Input) where
+  pair_is : {p : Xy} (next : Next) → PairIs order i j (Ok p) → pair_r order idx i.left.now next ≡ saying (xy_e p.x p.y idx) j.left.now next
+  unfolding pair_r field
+  pair_is {p} next (there, x, y, rest) =
+      let l : List ℕ = i.left.now in
+      let first : 8 ≤ length l = omega arith in
+      let second : 8 ≤ length (drop 8 l) = omega (arith, length-drop 8 l) in
+      rw (le-leb 8 (length l) first, le-leb 8 (length (drop 8 l)) second, rest, x, y, drop-drop 8 8 l)
+
+  pair_cut : {e : Refusal} (next : Next) → PairIs order i j (Err e) → pair_r order idx i.left.now next ≡ stop (number_of e)
+  unfolding pair_r field
+  pair_cut next (short, cut) = rw cut (go (dec_le 8 (length i.left.now)))
+    where
+      go : Dec (8 ≤ length i.left.now) → pair_r order idx i.left.now next ≡ stop 18
+      go (yes h) = rw (le-leb 8 (length i.left.now) h, lt-leb 8 (length (drop 8 i.left.now)) (omega (arith, length-drop 8 i.left.now)))
+      go (no h) = rw (lt-leb 8 (length i.left.now) (omega arith))
+
+  pub pair_leads : {T : Type 0} {p : Xy} {a b : Log Events} {k : Input} {r : Result T Refusal} → PairIs order i j (Ok p) → Leads (saying (xy_e p.x p.y idx)) a j b k r → Leads (pair_r order idx) a i b k r
+  pair_leads {a = a} there h = record { memory = h.memory; layout = h.layout; runs = λ next. ap (λ (s : Script Event). run (of_events a.layout) s a.bytes.now a.count) (pair_is next there) ∙ h.runs next }
+
+  pub pair_cut_leads : {T : Type 0} {e : Refusal} (a : Log Events) (k : Input) → PairIs order i j (Err e) → Leads {T = T} (pair_r order idx) a i a k (Err e)
+  pair_cut_leads {e = e} a k cut = record { memory = refl; layout = refl; runs = λ next. ap (λ (s : Script Event). run (of_events a.layout) s a.bytes.now a.count) (pair_cut next cut) ∙ run_stop (of_events a.layout) (number_of e) a.bytes.now a.count }
+
 -- ---- one part after the other
 pub then_leads : {T U : Type 0} {R S : Reads} {a b c : Log Events} {i j k : Input} {u : T} {r : Result U Refusal} → Leads R a i b j (Ok u) → Leads S b j c k r → Leads (R ⊳ S) a i c k r
 then_leads {S = S} h g = record { memory = g.memory ∙ h.memory; layout = g.layout ∙ h.layout; runs = λ next. h.runs (λ rest. S rest next) ∙ g.runs next }
@@ -73,6 +100,10 @@ stops_leads S h = record { memory = h.memory; layout = h.layout; runs = λ next.
 
 pub same_leads : {T : Type 0} {R S : Reads} {a b : Log Events} {i j : Input} {r : Result T Refusal} → R ≡ S → Leads S a i b j r → Leads R a i b j r
 same_leads e h = rw e h
+
+-- behind a refusal nothing is said of what is left
+pub refused_anywhere : {T : Type 0} {R : Reads} {a b : Log Events} {i j : Input} {e : Refusal} (k : Input) → Leads {T = T} R a i b j (Err e) → Leads {T = T} R a i b k (Err e)
+refused_anywhere k h = record { memory = h.memory; layout = h.layout; runs = h.runs }
 
 -- ---- in the course of a call
 pub then_left : {T : Type 0} {R : Reads} (S : Reads) {a b : Log Events} {i j : Input} {u : T} → Leads R a i b j (Ok u) → Left (R ⊳ S) a i S b j

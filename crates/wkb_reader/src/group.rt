@@ -53,8 +53,11 @@ pub fn read_group<T: Things>(
 {
     let size = input.u32(group.order)?;
     log.say(group.begin(size))?;
+    // What is left stands in a value of its own meanwhile, which a loop over pairs keeps in registers.
+    let mut left = *input;
     for idx in 0..size {
-        things.read(idx, input, log)?;
+        things.read(idx, &mut left, log)?;
     }
+    *input = left;
     log.say(group.end())
 }

@@ -1,7 +1,8 @@
 // The bytes that are left to be read, taken field by field.
 ghost use Rattle.std.specs.Prelude.{◌≡◌};
-ghost use Rattle.wkb_reader.specs.Fields.{FieldIs};
+ghost use Rattle.wkb_reader.specs.Fields.{FieldIs, PairIs};
 
+use kinds::event::Xy;
 use kinds::refusal::Refusal;
 use wkb::Order;
 
@@ -34,14 +35,19 @@ impl<'a> Input<'a> {
         Ok(wkb::u32_at(field, 0, order))
     }
 
+    // A pair is cut short where either of its numbers is.
     #[inline(always)]
-    pub fn u64(&mut self, order: Order) -> Result<u64, Refusal>
-        ensures { FieldIs order 8 self.old self.new result }
+    pub fn pair(&mut self, order: Order) -> Result<Xy, Refusal>
+        ensures { PairIs order self.old self.new result }
     {
-        let Some((field, rest)) = self.left.split_at_checked(8) else {
+        let left = self.left;
+        if left.len() < 16 {
             return Err(Refusal::WkbCut);
-        };
-        self.left = rest;
-        Ok(wkb::u64_at(field, 0, order))
+        }
+        self.left = &left[16..];
+        Ok(Xy {
+            x: wkb::u64_at(left, 0, order),
+            y: wkb::u64_at(left, 8, order),
+        })
     }
 }

@@ -28,9 +28,8 @@ impl Things for Pairs {
 
     #[inline(always)]
     fn read(&self, idx: u32, input: &mut Input, log: &mut EventLog) -> Result<(), Refusal> {
-        let x = input.u64(self.order)?;
-        let y = input.u64(self.order)?;
-        log.say(Event::xy(x, y, idx))
+        let pair = input.pair(self.order)?;
+        log.say(Event::xy(pair.x, pair.y, idx))
     }
 }
 

@@ -2,7 +2,7 @@ use Rattle.std.proofs.Math.Nat.{sub-zero}
 use Rattle.std.proofs.lemmas.Result.{err_from_is_err_and}
 use Rattle.kinds.specs.Event.{end_e}
 use Rattle.wkb_reader.specs.Reading.{saying}
-use Rattle.wkb_reader.specs.Onward.{said_leads, went_on, broke_off, ended}
+use Rattle.wkb_reader.specs.Onward.{said_leads, refused_anywhere, went_on, broke_off, ended}
 use Rattle.wkb_reader.specs.GroupLaws.{no_count, no_begin, begun}
 use Rattle.wkb_reader.proofs.group.read_group.Goals as goal
 
@@ -27,7 +27,7 @@ pub returns-in_err-read : goal.returns-in_err-read
 returns-in_err-read g c =
     let a = c.args in
     let p = err_from_is_err_and c.from_residual-in_err-read.result c.from_residual-in_err-read.ensures.1 in
-    rw (p.1, p.2) (broke_off (g.T.Things.thing a.things.now) (saying (end_e a.group.kind a.group.tagged a.group.idx)) c.loop-idx.invariant c.loop-idx-test.true c.in_err-read.ensures)
+    rw (p.1, p.2) (refused_anywhere _ (broke_off (g.T.Things.thing a.things.now) (saying (end_e a.group.kind a.group.tagged a.group.idx)) c.loop-idx.invariant c.loop-idx-test.true c.in_err-read.ensures))
 
 pub loop-idx-preserved : goal.loop-idx-preserved
 loop-idx-preserved g c =

@@ -8,4 +8,4 @@ abbrev pub invariant-loop-idx : goal.invariant-loop-idx
 invariant-loop-idx g l =
     let f = g.T.Things.thing l.things in
     Left (group_r l.group.order l.group.kind l.group.tagged f l.group.idx) l.fn.log l.fn.input
-    (several f (l.size - l.idx) l.idx ⊳ saying (end_e l.group.kind l.group.tagged l.group.idx)) l.log l.input
+    (several f (l.size - l.idx) l.idx ⊳ saying (end_e l.group.kind l.group.tagged l.group.idx)) l.log l.left
