@@ -1,8 +1,9 @@
 -- What the comparing functions lean on.
-use Rattle.std.specs.Prelude.{◌≡◌, refl, Bool, true, false, List, [], ◌∷◌, ◌++◌, ℕ, zero, suc, ◌+◌, ◌*◌, ◌≤◌, ◌<◌, length, take, drop, get_or}
-use Rattle.std.proofs.Common.{sym, ap, ◌∙◌, arith, take-suc, take-add, take-take}
+use Rattle.std.specs.Prelude.{◌≡◌, refl, Bool, true, false, ◌&&◌, List, [], ◌∷◌, ◌++◌, ℕ, zero, suc, ◌+◌, ◌-◌, ◌*◌, ◌≤◌, ◌<◌, eqb, ltb, length, take, drop, get_or}
+use Rattle.std.proofs.Common.{sym, ap, ◌∙◌, arith, take-suc, take-add, take_all, take-take, eqb-true, eq-eqb, ltb-true, ltb-false}
+use Rattle.laws.specs.Every.{both}
 use Rattle.laws.specs.Blocks.{block}
-use Rattle.compared.specs.Compared.{Exactly, AsGiven}
+use Rattle.compared.specs.Compared.{Exactly, Common, AsGiven}
 
 absurd : false ≡ true → ⊥
 absurd e = let z : ◌≡◌ {A = ℕ} 0 1 = cc in omega arith
@@ -24,6 +25,27 @@ one_more_lem a b i h g agree here =
   where
     next : i + 1 ≡ suc i
     next = omega arith
+
+module _ (a b : List ℕ) (n : ℕ) (c : Common a b n) where
+  whole : length a ≡ length b → n ≡ length a → a ≡ b
+  whole long all = sym (take_all n a (omega arith)) ∙ c.agree ∙ take_all n b (omega arith)
+
+  all_common : a ≡ b → n ≡ length a
+  all_common p = go (ltb n (length a)) refl
+    where
+      go : (t : Bool) → ltb n (length a) ≡ t → n ≡ length a
+      go true e =
+          let short : n < length a = ltb-true n (length a) e in
+          elim (c.part short (omega (arith, ap length p)) (ap (λ (l : List ℕ). get_or l n 0) p)) [ ]
+      go false e = omega (arith, ltb-false n (length a) e, c.in_first)
+
+  pub equal_rows : Exactly (eqb (length a) (length b) && eqb n (length a)) (a ≡ b)
+  equal_rows = (yes, λ p. rw (eq-eqb (length a) (length b) (ap length p), eq-eqb n (length a) (all_common p)))
+    where
+      yes : (eqb (length a) (length b) && eqb n (length a)) ≡ true → a ≡ b
+      yes e =
+          let parts = both (eqb (length a) (length b)) (eqb n (length a)) e in
+          whole (eqb-true (length a) (length b) parts.0) (eqb-true n (length a) parts.1)
 
 -- ---- rows of records
 -- Rows with the same records are the same as far as these reach, and the other way round.

@@ -22,7 +22,7 @@ pub fn common(a: &[u8], b: &[u8]) -> usize
 pub fn same(a: &[u8], b: &[u8]) -> bool
     ensures { Exactly result (a.now ≡ b.now) }
 {
-    a == b
+    (a.len() == b.len()) & (common(a, b) == a.len())
 }
 
 // The first `events` records of `sent` were given, and the first `count` of `log` were read back.

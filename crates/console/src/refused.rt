@@ -2,29 +2,50 @@
 use kinds::refusal::Refusal;
 use std::fmt;
 
-// Every refusal, to find one by its number.
-const ALL: [Refusal; 21] = [
-    Refusal::XyAbsent,
-    Refusal::Missing,
-    Refusal::TypeUnknown,
-    Refusal::TypeNotACurve,
-    Refusal::TypesMixed,
-    Refusal::NotUtf8,
-    Refusal::PastList,
-    Refusal::BadEnd,
-    Refusal::LogFull,
-    Refusal::BadRecord,
-    Refusal::Malformed,
-    Refusal::NoRoom,
-    Refusal::TooDeep,
-    Refusal::ValueCut,
-    Refusal::NotItsTurn,
-    Refusal::ColumnTooLarge,
-    Refusal::OtherFeature,
-    Refusal::WkbCut,
-    Refusal::WkbUnknown,
-    Refusal::WkbLeftOver,
-    Refusal::BadlyNested,
+// Each refusal with its words.
+const REASONS: [(Refusal, &str); 21] = [
+    (Refusal::XyAbsent, "an xy list is absent"),
+    (
+        Refusal::Missing,
+        "parts are absent, or a column is not below the column count",
+    ),
+    (Refusal::TypeUnknown, "unknown geometry type"),
+    (Refusal::TypeNotACurve, "unexpected type in a curve"),
+    (Refusal::TypesMixed, "types mixed"),
+    (Refusal::NotUtf8, "text is not UTF-8"),
+    (
+        Refusal::PastList,
+        "a coordinate or a z, m, t or tm value past its list",
+    ),
+    (
+        Refusal::BadEnd,
+        "an end that is 2^31 or larger, or less than the end before it",
+    ),
+    (Refusal::LogFull, "the log is full"),
+    (Refusal::BadRecord, "bad geometry record or table"),
+    (Refusal::Malformed, "malformed event or value"),
+    (
+        Refusal::NoRoom,
+        "no room in a pool, the table or the property bytes",
+    ),
+    (Refusal::TooDeep, "a part at level 17"),
+    (Refusal::ValueCut, "a property value cut short"),
+    (Refusal::NotItsTurn, "not its turn"),
+    (Refusal::ColumnTooLarge, "column number above 65,535"),
+    (Refusal::OtherFeature, "an event of another feature"),
+    (
+        Refusal::WkbCut,
+        "well-known binary that ends before a field is whole",
+    ),
+    (
+        Refusal::WkbUnknown,
+        "an order mark that is neither 0 nor 1, or a type that may not stand there",
+    ),
+    (Refusal::WkbLeftOver, "bytes behind the geometry"),
+    (
+        Refusal::BadlyNested,
+        "events that are no geometry's: badly nested, tagged, indexed or sized",
+    ),
 ];
 
 // By the number that the library's calls answer, which C has too.
@@ -45,38 +66,14 @@ impl Refused {
         }
     }
 
-    fn refusal(self) -> Option<Refusal> {
-        ALL.into_iter().find(|refusal| *refusal as u8 == self.0)
-    }
-
+    // A number that is no refusal's has none.
     fn reason(self) -> &'static str {
-        match self.refusal() {
-            Some(Refusal::XyAbsent) => "an xy list is absent",
-            Some(Refusal::Missing) => "parts are absent, or a column is not below the column count",
-            Some(Refusal::TypeUnknown) => "unknown geometry type",
-            Some(Refusal::TypeNotACurve) => "unexpected type in a curve",
-            Some(Refusal::TypesMixed) => "types mixed",
-            Some(Refusal::NotUtf8) => "text is not UTF-8",
-            Some(Refusal::PastList) => "a coordinate or a z, m, t or tm value past its list",
-            Some(Refusal::BadEnd) =>
-                "an end that is 2^31 or larger, or less than the end before it",
-            Some(Refusal::LogFull) => "the log is full",
-            Some(Refusal::BadRecord) => "bad geometry record or table",
-            Some(Refusal::Malformed) => "malformed event or value",
-            Some(Refusal::NoRoom) => "no room in a pool, the table or the property bytes",
-            Some(Refusal::TooDeep) => "a part at level 17",
-            Some(Refusal::ValueCut) => "a property value cut short",
-            Some(Refusal::NotItsTurn) => "not its turn",
-            Some(Refusal::ColumnTooLarge) => "column number above 65,535",
-            Some(Refusal::OtherFeature) => "an event of another feature",
-            Some(Refusal::WkbCut) => "well-known binary that ends before a field is whole",
-            Some(Refusal::WkbUnknown) =>
-                "an order mark that is neither 0 nor 1, or a type that may not stand there",
-            Some(Refusal::WkbLeftOver) => "bytes behind the geometry",
-            Some(Refusal::BadlyNested) =>
-                "events that are no geometry's: badly nested, tagged, indexed or sized",
-            None => "",
+        for (refusal, words) in REASONS {
+            if refusal.number() == self.0 {
+                return words;
+            }
         }
+        ""
     }
 }
 

@@ -3,31 +3,29 @@
 
 use console::{Double, Float};
 use std::io;
-use std::io::{BufWriter, Read, Write};
+use std::io::Read;
 
 // A letter, then eight bytes, of which a float has the first four.
 const RECORD_BYTES: usize = 9;
 
-fn write_number<W: Write>(out: &mut W, record: &[u8]) -> io::Result<()> {
-    match record {
-        [b'f', a, b, c, d, ..] => {
-            let number = Float(u32::from_le_bytes([*a, *b, *c, *d]));
-            writeln!(out, "{number}")
-        }
-        [_, a, b, c, d, e, f, g, h] => {
-            let number = Double(u64::from_le_bytes([*a, *b, *c, *d, *e, *f, *g, *h]));
-            writeln!(out, "{number}")
-        }
-        _ => Ok(()),
+fn print_number(rt: &impl Print, record: [u8; RECORD_BYTES]) -> io::Result<()> {
+    let [letter, a, b, c, d, e, f, g, h] = record;
+    if letter == b'f' {
+        println!(rt; "{}", Float(u32::from_le_bytes([a, b, c, d])))
+    } else {
+        println!(rt; "{}", Double(u64::from_le_bytes([a, b, c, d, e, f, g, h])))
     }
 }
 
-fn main(rt: HostRuntime) -> io::Result<()> {
-    let mut numbers = Vec::new(rt.alloc());
-    rt.reader().read_to_end(&mut numbers)?;
-    let mut out = BufWriter::new(rt.alloc(), io::writer(&rt))?;
-    for record in numbers.chunks_exact(RECORD_BYTES) {
-        write_number(&mut out, record)?;
+// Nothing says that the input ends, so the numbers are counted to a number that no list comes to. The list ends where it cannot be read,
+// and a line that cannot be written is passed over.
+fn main(rt: HostRuntime) {
+    let mut input = rt.reader();
+    let mut record = [0u8; RECORD_BYTES];
+    for _ in 0..u64::MAX {
+        if input.read_exact(&mut record).is_err() {
+            break;
+        }
+        let _ = print_number(&rt, record);
     }
-    out.flush()
 }

@@ -4,7 +4,7 @@
 use console::Refused;
 use event_log::EVENT_BYTES;
 use job_calls::Library;
-use job_file::Head;
+use job_file::{Columns, Head};
 use job_steps::InHand;
 use report::{Feature, KEPT, show_box, show_geometry, show_properties};
 use std::alloc::{AllocError, Global};
@@ -47,7 +47,8 @@ fn show_kept<W: io::Write>(
     feature: Feature,
     hand: &InHand,
     library: &Library,
-    head: &Head,
+    head: Head,
+    columns: &Columns,
     logs: &mut Logs,
 ) -> io::Result<()> {
     let read = library.read(head.flags, &mut logs.events);
@@ -55,14 +56,14 @@ fn show_kept<W: io::Write>(
         return Ok(());
     }
     show_box(out, library.edges())?;
-    let read = library.read_properties(head.columns.types(), &mut logs.values);
+    let read = library.read_properties(columns.types(), &mut logs.values);
     show_properties(
         out,
         read,
         hand.given(),
         &logs.values,
         library.properties(),
-        &head.columns,
+        columns,
     )
 }
 
@@ -70,7 +71,8 @@ pub fn finish<W: io::Write>(
     out: &mut W,
     hand: &mut InHand,
     library: &mut Library,
-    head: &Head,
+    head: Head,
+    columns: &Columns,
     logs: &mut Logs,
 ) -> io::Result<()> {
     if let Err(refused) = library.finish() {
@@ -79,7 +81,7 @@ pub fn finish<W: io::Write>(
     }
     let feature = hand.feature(library.feature());
     match feature.is_kept() {
-        Ok(()) => show_kept(out, feature, hand, library, head, logs)?,
+        Ok(()) => show_kept(out, feature, hand, library, head, columns, logs)?,
         Err(reason) => writeln!(out, "{feature}: no map, {reason}")?,
     }
     if let Err(refused) = library.leave() {

@@ -59,7 +59,7 @@ impl fmt::Display for Fault {
     }
 }
 
-// Why a job does not come to its end: it is none, or it could not be read, kept or told.
+// Why a job does not come to its end: it is none, or it could not be kept or told. An input that cannot be read ends there.
 #[derive(Debug, Drop)]
 pub enum JobError {
     NoJob(Fault),

@@ -1,20 +1,19 @@
-// A job's head: JOB1, the declared type, detect, promote, the flags of reading, how many columns; then the columns.
-use crate::columns::{Columns, read_columns};
-use crate::fault::{Fault, JobError, Wrong};
+// A job's head: JOB1, the declared type, detect, promote, the flags of reading, how many columns.
+use crate::fault::{Fault, Wrong};
 use crate::source::Source;
 use kinds::geometry_type;
-use std::alloc::Global;
 use std::io::Read;
 
 const BYTES: usize = 9;
 
-#[derive(Drop)]
+#[derive(Clone, Copy)]
 pub struct Head {
     pub declared: u8,
     pub detect: bool,
     pub promote: bool,
     pub flags: u8,
-    pub columns: Columns,
+    // How many columns follow.
+    pub columns: usize,
 }
 
 // The flags of z, m, t and tm are one bit each.
@@ -29,15 +28,15 @@ fn at_most(byte: u8, most: u8, wrong: Wrong, place: u64) -> Result<(), Fault> {
 }
 
 impl Head {
-    pub fn read<R: Read>(alloc: Global, source: &mut Source<R>) -> Result<Head, JobError> {
+    pub fn read<R: Read>(source: &mut Source<R>) -> Result<Head, Fault> {
         let [j, o, b, one, declared, detect, promote, flags, columns] = source.next::<BYTES>(
             Wrong::CutHead,
         )?;
         if [j, o, b, one] != *b"JOB1" {
-            return Err(JobError::from(Fault {
+            return Err(Fault {
                 wrong: Wrong::NoMark,
                 place: 0,
-            }));
+            });
         }
         at_most(declared, geometry_type::TRIANGLE, Wrong::NoType, 4)?;
         at_most(detect, 1, Wrong::BadDetect, 5)?;
@@ -48,7 +47,7 @@ impl Head {
             detect: detect == 1,
             promote: promote == 1,
             flags,
-            columns: read_columns(alloc, source, usize::from(columns))?,
+            columns: usize::from(columns),
         })
     }
 }

@@ -1,45 +1,43 @@
 // The items of a job.
-use crate::fault::{Fault, JobError, Wrong};
+use crate::fault::{Fault, Wrong};
 use crate::source::Source;
 use event_log::EVENT_BYTES;
 use numbers::{u32_at, u64_at};
-use std::alloc::Global;
 use std::io::Read;
 
 // Before the text: the column, the type, the value's bits, the text's length.
 const HEAD_BYTES: usize = 17;
 
 // The longest text that a property may have.
-const TEXT_BYTES: usize = 65536;
+pub const TEXT_BYTES: usize = 65536;
 
-#[derive(Drop)]
-pub struct Property {
+#[derive(Clone, Copy)]
+pub struct Property<'a> {
     pub column: u32,
     pub kind: u8,
     pub bits: u64,
-    pub text: Vec<u8>,
+    pub text: &'a [u8],
 }
 
-#[derive(Drop)]
-pub enum Item {
+#[derive(Clone, Copy)]
+pub enum Item<'a> {
     Event([u8; EVENT_BYTES]),
-    Property(Property),
+    Property(Property<'a>),
     // The feature ends.
     Finish,
 }
 
-impl Property {
-    fn read<R: Read>(alloc: Global, source: &mut Source<R>) -> Result<Property, JobError> {
+impl<'a> Property<'a> {
+    fn read<R: Read>(source: &mut Source<R>, room: &'a mut [u8]) -> Result<Property<'a>, Fault> {
         let head = source.next::<HEAD_BYTES>(Wrong::CutProperty)?;
         let length = u32_at(&head, 13) as usize;
-        if length > TEXT_BYTES {
-            return Err(JobError::from(Fault {
+        let Some(text) = room.get_mut(..length) else {
+            return Err(Fault {
                 wrong: Wrong::LongText,
                 place: source.place(),
-            }));
-        }
-        let mut text = vec![in alloc; 0u8; length]?;
-        source.fill_all(&mut text, Wrong::CutText)?;
+            });
+        };
+        source.fill_all(text, Wrong::CutText)?;
         Ok(Property {
             column: u32_at(&head, 0),
             kind: head[4],
@@ -49,22 +47,26 @@ impl Property {
     }
 }
 
-impl Item {
-    // The next item, of which a letter says what it is, or none where the job ends.
-    pub fn read<R: Read>(alloc: Global, source: &mut Source<R>) -> Result<Option<Item>, JobError> {
+impl<'a> Item<'a> {
+    // The next item, of which a letter says what it is, or none where the job ends. A property's text stands in `room`, which has
+    // place for the longest.
+    pub fn read<R: Read>(
+        source: &mut Source<R>,
+        room: &'a mut [u8],
+    ) -> Result<Option<Item<'a>>, Fault> {
         let place = source.place();
-        let Some(letter) = source.next_byte()? else {
+        let Some(letter) = source.next_byte() else {
             return Ok(None);
         };
         let item = match letter {
             b'E' => Item::Event(source.next::<EVENT_BYTES>(Wrong::CutEvent)?),
-            b'P' => Item::Property(Property::read(alloc, source)?),
+            b'P' => Item::Property(Property::read(source, room)?),
             b'F' => Item::Finish,
             _ => {
-                return Err(JobError::from(Fault {
+                return Err(Fault {
                     wrong: Wrong::NoItem,
                     place,
-                }));
+                });
             }
         };
         Ok(Some(item))

@@ -10,5 +10,5 @@ mod source;
 pub use columns::Columns;
 pub use fault::{Fault, JobError, Wrong};
 pub use head::Head;
-pub use item::{Item, Property};
+pub use item::{Item, Property, TEXT_BYTES};
 pub use source::Source;

@@ -1,8 +1,7 @@
-// The input, read from its start on.
-ghost use Rattle.std.specs.Prelude.{◌≤◌, length, IfOk};
+// The input, read from its start on: at each time what is next and no more, so that what stands behind a job is left to be read.
+ghost use Rattle.std.specs.Prelude.{◌≤◌, length};
 
-use crate::fault::{Fault, JobError, Wrong};
-use std::io;
+use crate::fault::{Fault, Wrong};
 use std::io::Read;
 
 // Where the next byte stands is counted from 0.
@@ -21,42 +20,44 @@ impl<R: Read> Source<R> {
         self.place
     }
 
-    // How many bytes there were: fewer than there is room for only at the input's end.
-    fn fill(&mut self, room: &mut [u8]) -> io::Result<usize>
-        ensures { IfOk result (λ got. got ≤ length room.new) }
+    // How many bytes there were: fewer than there is room for only at the input's end. A read that fails is its end.
+    fn fill(&mut self, room: &mut [u8]) -> usize
+        ensures { result ≤ length room.new }
     {
         let mut got = 0;
-        for _ in 0..room.len() {
-            let more = self.input.read(&mut room[got..])?;
-            if more == 0 {
-                break;
+        while got < room.len() {
+            match self.input.read(&mut room[got..]) {
+                Ok(more) if more > 0 => got += more,
+                _ => break,
             }
-            got += more;
         }
         self.place = self.place.wrapping_add(got as u64);
-        Ok(got)
+        got
     }
 
     // An input that is cut short is wrong at its end.
-    pub fn fill_all(&mut self, room: &mut [u8], cut: Wrong) -> Result<(), JobError> {
-        if self.fill(room)? < room.len() {
-            return Err(JobError::from(Fault {
+    pub fn fill_all(&mut self, room: &mut [u8], cut: Wrong) -> Result<(), Fault> {
+        if self.fill(room) < room.len() {
+            return Err(Fault {
                 wrong: cut,
                 place: self.place,
-            }));
+            });
         }
         Ok(())
     }
 
-    pub fn next<const N: usize>(&mut self, cut: Wrong) -> Result<[u8; N], JobError> {
+    pub fn next<const N: usize>(&mut self, cut: Wrong) -> Result<[u8; N], Fault> {
         let mut bytes = [0u8; N];
         self.fill_all(&mut bytes, cut)?;
         Ok(bytes)
     }
 
-    pub fn next_byte(&mut self) -> io::Result<Option<u8>> {
+    pub fn next_byte(&mut self) -> Option<u8> {
         let mut byte = [0u8; 1];
-        let got = self.fill(&mut byte)?;
-        Ok(if got == 0 { None } else { Some(byte[0]) })
+        if self.fill(&mut byte) == 0 {
+            None
+        } else {
+            Some(byte[0])
+        }
     }
 }

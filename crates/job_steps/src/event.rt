@@ -36,7 +36,7 @@ pub fn take_event<W: io::Write>(
     library: &mut Library,
     event: &[u8; EVENT_BYTES],
 ) -> io::Result<()> {
-    hand.put_event(event)?;
+    hand.put_event(event);
     match library.event(event) {
         Ok(()) => {
             hand.take_number();

@@ -1,8 +1,7 @@
 // What the feature in hand was given, and what became of it.
 use event_log::{EVENT_BYTES, VALUE_BYTES};
 use report::{Feature, KEPT};
-use std::alloc::Global;
-use std::io;
+use std::alloc::{AllocError, Global};
 
 #[derive(Drop)]
 pub struct InHand {
@@ -14,22 +13,34 @@ pub struct InHand {
     numbered: bool,
     // Whether anything of it was refused.
     refused: bool,
-    // The events that were given, as far as they are kept, and the values as they are to come back.
+    // The events that were given and the values as they are to come back, each at its own place. What has no place is not kept.
     sent: Vec<u8>,
     given: Vec<u8>,
 }
 
+// So many bytes of values are kept to be compared.
+const VALUES_BYTES: usize = 65536;
+
+// Puts a record down at its place, where there is one.
+fn keep<const N: usize>(row: &mut [u8], n: usize, record: &[u8; N]) {
+    let from = n.saturating_mul(N);
+    let end = from.saturating_add(N);
+    if let Some(place) = row.get_mut(from..end) {
+        place.copy_from_slice(record);
+    }
+}
+
 impl InHand {
-    pub fn new(alloc: Global) -> InHand {
-        InHand {
+    pub fn new(alloc: Global) -> Result<InHand, AllocError> {
+        Ok(InHand {
             features: 0,
             events: 0,
             properties: 0,
             numbered: false,
             refused: false,
-            sent: Vec::new(alloc),
-            given: Vec::new(alloc),
-        }
+            sent: vec![in alloc; 0u8; EVENT_BYTES * KEPT]?,
+            given: vec![in alloc; 0u8; VALUES_BYTES]?,
+        })
     }
 
     // As people count.
@@ -49,12 +60,16 @@ impl InHand {
         self.properties
     }
 
+    // The events that were given stand first.
     pub fn sent(&self) -> &[u8] {
         self.sent.as_slice()
     }
 
+    // More values than are kept come back different.
     pub fn given(&self) -> &[u8] {
-        self.given.as_slice()
+        let given = self.given.as_slice();
+        let end = self.properties.saturating_mul(VALUE_BYTES);
+        given.get(..end).unwrap_or(given)
     }
 
     pub fn is_untouched(&self) -> bool {
@@ -75,12 +90,9 @@ impl InHand {
         self.refused = true;
     }
 
-    pub fn put_event(&mut self, event: &[u8; EVENT_BYTES]) -> io::Result<()> {
-        if self.events < KEPT {
-            self.sent.extend_from_slice(event)?;
-        }
+    pub fn put_event(&mut self, event: &[u8; EVENT_BYTES]) {
+        keep(&mut self.sent, self.events, event);
         self.events = self.events.saturating_add(1);
-        Ok(())
     }
 
     // An event of it was taken.
@@ -92,9 +104,10 @@ impl InHand {
         self.properties = self.properties.saturating_add(1);
     }
 
-    pub fn put_value(&mut self, value: &[u8; VALUE_BYTES]) -> io::Result<()> {
-        self.given.extend_from_slice(value)?;
-        Ok(())
+    // The value of the next property.
+    pub fn put_value(&mut self, value: &[u8; VALUE_BYTES]) {
+        keep(&mut self.given, self.properties, value);
+        self.count_property();
     }
 
     // The next feature is in hand.
@@ -104,7 +117,5 @@ impl InHand {
         self.properties = 0;
         self.numbered = false;
         self.refused = false;
-        self.sent.clear();
-        self.given.clear();
     }
 }

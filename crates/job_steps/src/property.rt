@@ -15,12 +15,12 @@ const INDEX: u32 = 2;
 
 const INDEX_AND_LENGTH: u32 = 6;
 
-fn column_of(property: &Property) -> u16 {
+fn column_of(property: &Property<'_>) -> u16 {
     (property.column % 65536) as u16
 }
 
 // The value as it is to come back, from how many property bytes there were before it and after it.
-fn value_of(property: &Property, before: u32, after: u32) -> Value {
+fn value_of(property: &Property<'_>, before: u32, after: u32) -> Value {
     let column = column_of(property);
     let kind = property.kind;
     let added = after.wrapping_sub(before);
@@ -43,7 +43,7 @@ fn value_of(property: &Property, before: u32, after: u32) -> Value {
 fn write_refused<W: io::Write>(
     out: &mut W,
     hand: &InHand,
-    property: &Property,
+    property: &Property<'_>,
     columns: &Columns,
     bad: BadValue,
 ) -> io::Result<()> {
@@ -52,14 +52,14 @@ fn write_refused<W: io::Write>(
     let refused = bad.refused;
     writeln!(out, "feature {ordinal}, property {count}: {refused}")?;
     if refused == Refused::NOT_UTF8 {
-        let text = property.text.as_slice();
-        show_bad_text(out, columns, column_of(property), text, bad.place)?;
+        show_bad_text(out, columns, column_of(property), property.text, bad.place)?;
     }
     Ok(())
 }
 
 // A value laid down as another type than its column's would be read as what it is not.
 fn refuse_type<W: io::Write>(out: &mut W, hand: &mut InHand) -> io::Result<()> {
+    hand.count_property();
     hand.refuse();
     let ordinal = hand.ordinal();
     let count = hand.properties();
@@ -74,25 +74,19 @@ pub fn take_property<W: io::Write>(
     hand: &mut InHand,
     library: &mut Library,
     columns: &Columns,
-    property: &Property,
+    property: &Property<'_>,
 ) -> io::Result<()> {
-    hand.count_property();
     if !columns.has(property.column, property.kind) {
         return refuse_type(out, hand);
     }
     let before = library.property_bytes();
-    let answer = library.property(
-        property.column,
-        property.kind,
-        property.bits,
-        property.text.as_slice(),
-    );
+    let answer = library.property(property.column, property.kind, property.bits, property.text);
     let mut value = [0u8; VALUE_BYTES];
     put_value(
         &mut value,
         value_of(property, before, library.property_bytes()),
     );
-    hand.put_value(&value)?;
+    hand.put_value(&value);
     match answer {
         Ok(()) => Ok(()),
         Err(bad) => {
