@@ -7,7 +7,7 @@ mod sort;
 use crate::sort::Sort;
 use reader_cases::{Reading, Tree, lay_tree, read};
 use replay::{Differences, Fields, Memory, Program, Tally};
-use std::io;
+use std::alloc::AllocError;
 
 const LONGEST_FRAME: usize = 300000;
 
@@ -19,7 +19,7 @@ struct Readers {
 impl Program for Readers {
     type Sort = Sort;
 
-    fn answer(&mut self, rt: &impl Print, case: &[u8], tally: &mut Tally<Sort>) -> io::Result<()> {
+    fn answer(&mut self, rt: &impl Print, case: &[u8], tally: &mut Tally) {
         let mut fields = Fields::new(case);
         let sort = Sort::of_number(fields.number());
         match sort {
@@ -49,8 +49,8 @@ fn answer_tree<'a>(
     case: &'a [u8],
     mut fields: Fields<'a>,
     memory: &mut Memory,
-    tally: &mut Tally<Sort>,
-) -> io::Result<()> {
+    tally: &mut Tally,
+) {
     let tree = Tree::new(case, &mut fields);
     let is_laid = lay_tree(&tree, memory);
     for _ in 0..fields.number() {
@@ -60,12 +60,11 @@ fn answer_tree<'a>(
             case: differences.case || !is_laid,
             ..differences
         };
-        tally.count(rt, Sort::of_number(reading.sort), differences)?;
+        tally.count(rt, Sort::of_number(reading.sort), differences);
     }
-    Ok(())
 }
 
-fn main(rt: HostRuntime) -> io::Result<()> {
+fn main(rt: HostRuntime) -> Result<(), AllocError> {
     let mut readers = Readers {
         memory: Memory::new(rt.alloc())?,
     };

@@ -1,3 +1,4 @@
+use replay::Sorted;
 use std::fmt;
 
 /// What a case is of. A tree has readings of the four from Whole on, each a case of its own.
@@ -34,6 +35,12 @@ impl Sort {
 
     pub fn of_number(number: u32) -> Option<Sort> {
         Sort::ALL.get(number as usize).copied()
+    }
+}
+
+impl Sorted for Sort {
+    fn place(self) -> usize {
+        self as usize
     }
 }
 

@@ -1,6 +1,6 @@
 use crate::packed::unpack;
 use std::io;
-use std::io::{BufRead, ErrorKind};
+use std::io::{ErrorKind, Read};
 
 /// Cases one behind the other, each a frame: a length in four bytes, then so many bytes, in which zeros are packed.
 #[derive(Drop)]
@@ -9,27 +9,26 @@ pub struct Frames<R> {
     room: Vec<u8>,
 }
 
-impl<R: BufRead> Frames<R> {
+impl<R: Read> Frames<R> {
     /// Frames that are no longer than this room.
     pub fn new(input: R, room: Vec<u8>) -> Frames<R> {
         Frames { input, room }
     }
 
-    /// The next case, or none where the input ends. An input that ends within a frame is an error.
+    /// The next case, or none where the input ends, as it does where it cannot be read. An input that ends within a frame is an error.
     pub fn next_case(&mut self) -> io::Result<Option<&[u8]>> {
-        if self.input.fill_buf()?.is_empty() {
+        let mut length = [0; 4];
+        let Ok(got @ 1..) = self.input.read(&mut length) else {
             return Ok(None);
-        }
-        let from = self.read_packed()?;
+        };
+        self.input.read_exact(&mut length[got..])?;
+        let from = self.read_packed(u32::from_le_bytes(length) as usize)?;
         let length = unpack(self.room.as_mut_slice(), from);
         Ok(self.room.get(..length))
     }
 
     // Packed bytes are read to the room's end. Says where they start.
-    fn read_packed(&mut self) -> io::Result<usize> {
-        let mut length = [0; 4];
-        self.input.read_exact(&mut length)?;
-        let length = u32::from_le_bytes(length) as usize;
+    fn read_packed(&mut self, length: usize) -> io::Result<usize> {
         let Some(from) = self.room.len().checked_sub(length) else {
             return Err(io::Error::from(ErrorKind::InvalidData));
         };

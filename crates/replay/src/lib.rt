@@ -15,4 +15,4 @@ pub use differences::Differences;
 pub use fields::Fields;
 pub use memory::{Memory, so_many, so_many_mut};
 pub use program::{Program, run};
-pub use tally::Tally;
+pub use tally::{Sorted, Tally};

@@ -1,59 +1,61 @@
 use crate::Differences;
-use std::alloc::{AllocError, Global};
-use std::collections::BTreeMap;
 use std::fmt::Display;
-use std::io;
 
 // So many cases are named; the others are only counted.
 const NAMED: u64 = 10;
 
-/// How many cases ran, of which sort, and how many differed.
-#[derive(Drop)]
-pub struct Tally<S: Ord> {
-    counts: BTreeMap<S, u64>,
+// No program has more sorts.
+const SORTS: usize = 11;
+
+/// A sort of cases, which is counted at a place of its own, and printed in words.
+pub trait Sorted: Copy + Display {
+    fn place(self) -> usize;
+}
+
+/// How many cases ran, of which sort, and how many differed. A line that cannot be written is passed over.
+#[derive(Clone, Copy)]
+pub struct Tally {
+    counts: [u64; SORTS],
     cases: u64,
     differ: u64,
 }
 
-impl<S: Ord + Copy + Display> Tally<S> {
-    pub fn new(alloc: Global, sorts: &[S]) -> Result<Tally<S>, AllocError> {
-        let mut counts = BTreeMap::new(alloc);
-        for sort in sorts {
-            counts.insert(*sort, 0)?;
-        }
-        Ok(Tally {
-            counts,
-            cases: 0,
-            differ: 0,
-        })
-    }
+impl Tally {
+    pub const NONE: Tally = Tally {
+        counts: [0; SORTS],
+        cases: 0,
+        differ: 0,
+    };
 
     /// Counts a case, and names what differs in it. A case of a sort that is not known has none.
-    pub fn count(
-        &mut self,
-        rt: &impl Print,
-        sort: Option<S>,
-        differences: Differences,
-    ) -> io::Result<()> {
+    pub fn count<S: Sorted>(&mut self, rt: &impl Print, sort: Option<S>, differences: Differences) {
         self.cases = self.cases.saturating_add(1);
         if let Some(sort) = sort {
-            let count = self.counts.entry(sort)?.or_insert(0);
-            *count = count.saturating_add(1);
+            self.count_sort(sort);
         }
         if differences == Differences::NONE {
-            return Ok(());
+            return;
         }
         self.differ = self.differ.saturating_add(1);
         if self.differ <= NAMED {
-            println!(rt; "case {} differs:{differences}", self.cases)?;
+            let _ = println!(rt; "case {} differs:{differences}", self.cases);
         }
-        Ok(())
     }
 
-    pub fn report(&self, rt: &impl Print) -> io::Result<()> {
-        for (sort, count) in &self.counts {
-            println!(rt; "{sort} {count}")?;
+    fn count_sort<S: Sorted>(&mut self, sort: S) {
+        if let Some(count) = self.counts.get_mut(sort.place()) {
+            *count = count.saturating_add(1);
         }
-        println!(rt; "{} cases, {} differ", self.cases, self.differ)
+    }
+
+    fn counted<S: Sorted>(&self, sort: S) -> u64 {
+        self.counts.get(sort.place()).copied().unwrap_or(0)
+    }
+
+    pub fn report<S: Sorted>(&self, rt: &impl Print, sorts: &[S]) {
+        for sort in sorts {
+            let _ = println!(rt; "{sort} {}", self.counted(*sort));
+        }
+        let _ = println!(rt; "{} cases, {} differ", self.cases, self.differ);
     }
 }

@@ -1,3 +1,4 @@
+use replay::Sorted;
 use std::fmt;
 
 /// What a case calls.
@@ -28,6 +29,12 @@ impl Sort {
 
     pub fn of_number(number: u8) -> Option<Sort> {
         Sort::ALL.get(usize::from(number)).copied()
+    }
+}
+
+impl Sorted for Sort {
+    fn place(self) -> usize {
+        self as usize
     }
 }
 
