@@ -62,11 +62,12 @@ impl<'a, L: Layout> Log<'a, L> {
         self.count
     }
 
-    // Whether there is room for one more record.
-    fn has_room(&self) -> bool
-        ensures { result ≡ room_at (L.format self.now.layout).wide self.now.bytes.now self.now.count }
+    // Whether there is room for one more record, so wide.
+    fn has_room(&self, wide: usize) -> bool
+        requires { 0 < wide }
+        ensures { result ≡ room_at wide self.now.bytes.now self.now.count }
     {
-        (self.count < usable::LOG_RECORDS) & (self.count < self.bytes.len() / self.layout.wide())
+        (self.count < usable::LOG_RECORDS) & (self.count < self.bytes.len() / wide)
     }
 
     // Writes the next record. It stands in the loop that says one record after the other: as a call of its own, LLVM hands it each record
@@ -75,10 +76,10 @@ impl<'a, L: Layout> Log<'a, L> {
     pub fn say(&mut self, item: L::Item) -> Result<(), Refusal>
         ensures { Says L.format (one item) self.old self.new result }
     {
-        if !self.has_room() {
+        let wide = self.layout.wide();
+        if !self.has_room(wide) {
             return Err(Refusal::LogFull);
         }
-        let wide = self.layout.wide();
         let from = wide * self.count;
         let end = from + wide;
         self.layout.put(&mut self.bytes[from..end], item);
