@@ -1,4 +1,4 @@
--- One outcome: whatever meets a call's contract on the same entry is the same, answer, state and every lent slice. The premises are the calls' own `ensures`, word for word.
+-- One outcome: whatever meets a call's contract on the same entry is the same, answer, state and every lent slice. The premises are the calls' own `ensures`, word for word, over what an answer comes to; of the readings and of properties, over the answer itself too.
 use Rattle.std.specs.Prelude.{◌≡◌, refl, Result, Bool, List, ◌++◌, ℕ, ◌*◌, take, drop}
 use Rattle.std.proofs.Common.{Ok, Err, sym, ap, ◌∙◌, arith}
 use Rattle.laws.specs.Script.{Script, out, Format, run}
@@ -150,7 +150,7 @@ property_answer_once s column kind bits text buffer a b after after' h k l t h' 
     let numbers = sym (number_as s a) ∙ ap (λ (w : Wrote). w.number) o.0 ∙ number_as s b in
     (told_once a b t t' numbers o.2 (λ x y p q. ap (λ (w : Wrote). w.state) (rw (p, q) at o.0)), o.1)
 
--- ---- the readers. Whatever a call says to a log that holds so many records, it leaves one log and gives one answer.
+-- ---- the readers. Whatever a call says to a log, however many records it holds, it leaves one log and gives one answer.
 pub says_once : {L A R : Type 0} (format : L → Format A) (s : Script A) (a b b' : Log L) (r r' : Result R Refusal)
     → Says format s a b r → Says format s a b' r' → (answer_of r ≡ answer_of r') × (b.count ≡ b'.count) × (b.bytes.now ≡ b'.bytes.now) × (b.bytes.ghost_name ≡ b'.bytes.ghost_name) × (b.layout ≡ b'.layout)
 says_once format s a b b' r r' h h' =
@@ -226,7 +226,7 @@ boxed_once (Err p) (Err q) h = ap Err (refusal_once p q (ap (λ (b : Boxed). b.n
 pub box_once : (table : List ℕ) (P : Pools) (n : ℕ) (b b' : Boxed) → b ≡ box_of (record_with table P) n → b' ≡ box_of (record_with table P) n → b ≡ b'
 box_once table P n b b' h h' = h ∙ sym h'
 
--- ---- the exported calls: the writing ones keep the state as words; read and read_properties say what the inner calls say (`said_once`), and the others' contracts are equations
+-- ---- the exported calls: the writing ones keep the state as words; the readings have their own above (bintolage_read_once, bintolage_read_wkb_once), and the others' contracts are equations
 pub kept_once : (number number' : ℕ) (words words' : List ℕ) (mem mem' : Mem) (o : Kept) → kept number words mem ≡ o → kept number' words' mem' ≡ o → (number ≡ number') × (words ≡ words') × (mem ≡ mem')
 kept_once number number' words words' mem mem' o h h' =
     let e = h ∙ sym h' in

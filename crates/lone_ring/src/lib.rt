@@ -1,5 +1,5 @@
-// The polygon of a record that has an xy list and no other, of which no z, m, t or tm is read: the common part. It has a loop of
-// its own, which asks nothing of the other lists at any pair.
+// The polygon of a record that has an xy list and no other, of which no z, m, t or tm is read: the common part. Its pairs
+// are said alone, which asks nothing of the other lists at any of them.
 #![tactic(auto)]
 
 ghost use Rattle.std.specs.Prelude.{◌≡◌, false, []};

@@ -4,7 +4,7 @@ use Rattle.std.proofs.Math.Path.{sym}
 use Rattle.std.proofs.Common.{Ok, Err, ap, ◌∙◌, arith, take_all}
 use borrow.Author.Tests.{ltb-true, ltb-false, eq-eqb, ne_eqb}
 use Rattle.laws.specs.Bytes.{word_at, part_cons}
-use Rattle.laws.specs.Script.{Script, stop, say, one, run, run_stop, ◌⨟◌, seq_done, seq_refused, one_nine}
+use Rattle.laws.specs.Script.{Script, stop, say, one, out, run, run_stop, ◌⨟◌, seq_done, seq_refused, one_nine}
 use Rattle.kinds.specs.declared.value.Value.{Value}
 use Rattle.kinds.specs.declared.refusal.Refusal.{Refusal}
 use Rattle.kinds.specs.Refusal.{number_of, refused}
@@ -32,6 +32,13 @@ pub record Going (bytes columns : List ℕ) (last : ℕ) (a b : Log Values) (at 
 
 pub begun : (bytes columns : List ℕ) (last : ℕ) (a : Log Values) → Going bytes columns last a a 0
 begun bytes columns last a = record { inside = omega arith; memory = refl; same-run = refl; same-says = refl; same_bad = refl }
+
+-- the reading ends with a number, whether it stopped early, and a place
+abbrev pub Ended : List ℕ → List ℕ → ℕ → Log Values → Log Values → ℕ → Bool → ℕ → Type 0
+Ended bytes columns last a b number early place =
+    (run values (properties_from bytes columns last 0) a.bytes.now a.count ≡ out number b.count b.bytes.now)
+    × (early ≡ stopped last (properties_from bytes columns last 0) number)
+    × (place ≡ placed number (bad_from bytes columns last 0))
 
 -- 6 is refused of a text alone, with its place
 unfoldable Placed : Item → Type 0
@@ -86,25 +93,25 @@ module _ {bytes columns : List ℕ} {last : ℕ} {a b : Log Values} {at : ℕ} (
   unfolding on_item says stopped placed
   at-end e = record { memory = g.memory; log_value = runs_on End e ∙ run_stop values 0 b.bytes.now b.count; stopped_value = sym (says_on End e); place_value = refl; told = tt }
 
-  pub at_refused : (refusal : PropertyRefusal) → refused_as refusal ≡ item_at bytes columns at → Read bytes columns last a b (Err refusal)
+  pub at_refused : (number : ℕ) → Refused number ≡ item_at bytes columns at → Ended bytes columns last a b number false 0
   unfolding on_item says stopped placed
-  at_refused (BadText place) e =
-      record {
-        memory = g.memory;
-        log_value = runs_on (NotUtf8 place) e ∙ run_stop values 6 b.bytes.now b.count;
-        stopped_value = refl;
-        place_value = sym (bad_on (NotUtf8 place) e);
-        told = tt;
-      }
-  at_refused (Other refusal) e =
-      let number : ℕ = number_of refusal in
-      record {
-        memory = g.memory;
-        log_value = runs_on (Refused number) e ∙ run_stop values number b.bytes.now b.count;
-        stopped_value = sym (and_false (eqb number 0) _ (says_on (Refused number) e));
-        place_value = sym (no_place (eqb number 6) _ (bad_on (Refused number) e));
-        told = told_at bytes columns at (Other refusal) e;
-      }
+  at_refused number e = (
+    runs_on (Refused number) e ∙ run_stop values number b.bytes.now b.count,
+    sym (and_false (eqb number 0) _ (says_on (Refused number) e)),
+    sym (no_place (eqb number 6) _ (bad_on (Refused number) e)),
+  )
+
+  pub at_not_utf8 : (place : ℕ) → NotUtf8 place ≡ item_at bytes columns at → Ended bytes columns last a b 6 false place
+  unfolding on_item says stopped placed
+  at_not_utf8 place e = (runs_on (NotUtf8 place) e ∙ run_stop values 6 b.bytes.now b.count, refl, sym (bad_on (NotUtf8 place) e))
+
+  pub at_refusal : (refusal : PropertyRefusal) → refused_as refusal ≡ item_at bytes columns at → Read bytes columns last a b (Err refusal)
+  at_refusal (BadText place) e =
+      let ended = at_not_utf8 place e in
+      record { memory = g.memory; log_value = ended.0; stopped_value = ended.1; place_value = ended.2; told = tt }
+  at_refusal (Other refusal) e =
+      let ended = at_refused (number_of refusal) e in
+      record { memory = g.memory; log_value = ended.0; stopped_value = ended.1; place_value = ended.2; told = told_at bytes columns at (Other refusal) e }
 
   pub at_skipped : (next : ℕ) → Skipped next ≡ item_at bytes columns at → Going bytes columns last a b next
   unfolding on_item
@@ -125,17 +132,23 @@ module _ {bytes columns : List ℕ} {last : ℕ} {a b : Log Values} {at : ℕ} (
     unfolding on_item ◌⨟◌ later
     runs_one = runs_on (Found value next) e
 
-    pub at_full : {R : Type 0} {c : Log Values} {refusal : Refusal} → Says {R = R} of_values (one value) b c (Err refusal) → Read bytes columns last a c (Err (Other refusal))
+    pub at_full : (c : Log Values) {number : ℕ} → run values (one value) b.bytes.now b.count ≡ out number c.count c.bytes.now → (number ≡ 0 → ⊥) → Ended bytes columns last a c number false 0
     unfolding stopped
-    at_full {c = c} {refusal = refusal} said =
-        let h = refused refusal in
-        let other : number_of refusal ≡ 6 → ⊥ = (λ six. omega (arith, one_nine values value b.bytes.now b.count said.said h)) in
+    at_full c {number} said h = (
+      runs_one ∙ seq_refused values (one value) later b.bytes.now b.count said h,
+      rw (ne_eqb number 0 h),
+      sym (not-placed number _ (λ six. omega (arith, one_nine values value b.bytes.now b.count said h))),
+    )
+
+    pub at_full_log : {R : Type 0} {c : Log Values} {refusal : Refusal} → Says {R = R} of_values (one value) b c (Err refusal) → Read bytes columns last a c (Err (Other refusal))
+    at_full_log {c = c} {refusal = refusal} said =
+        let ended = at_full c said.said (refused refusal) in
         record {
           memory = said.memory ∙ g.memory;
-          log_value = runs_one ∙ seq_refused values (one value) later b.bytes.now b.count said.said h;
-          stopped_value = rw (ne_eqb (number_of refusal) 0 h);
-          place_value = sym (not-placed (number_of refusal) _ other);
-          told = proper refusal other;
+          log_value = ended.0;
+          stopped_value = ended.1;
+          place_value = ended.2;
+          told = proper refusal (λ six. omega (arith, one_nine values value b.bytes.now b.count said.said (refused refusal)));
         }
 
     module _ {R : Type 0} {u : R} {c : Log Values} (said : Says of_values (one value) b c (Ok u)) where

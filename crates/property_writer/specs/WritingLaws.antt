@@ -14,12 +14,12 @@ use Rattle.laws.specs.Runs.{sets_split, take-sets, drop-sets}
 use Rattle.utf8.specs.Utf8.{first_bad}
 use Rattle.kinds.specs.Refusal.{number_of, refused as is_refusal}
 use Rattle.property_value.specs.declared.refused.PropertyRefusal.{PropertyRefusal}
-use Rattle.property_value.specs.Refused.{refusal_of as refused_as}
+use Rattle.property_value.specs.Refused.{refusal_of as refused_as, place_of}
 use Rattle.property_value.specs.Column.{width_of}
 use Rattle.property_value.specs.ColumnLaws.{width_most}
 use Rattle.property_value.specs.Value.{malformed, text_ok, placed}
 use Rattle.property_value.specs.ValueLaws.{well_formed_lem}
-use Rattle.property_writer.specs.Writing.{text_bytes, laid_down, property_bytes, refusal_of, PropertyPut, put_as, put_of, bytes_after, property_length, Exact, Judged}
+use Rattle.property_writer.specs.Writing.{text_bytes, laid_down, property_bytes, refusal_of, PropertyPut, put_as, put_of, bytes_after, property_length, Exact}
 
 -- ---- a property's bytes
 
@@ -103,7 +103,8 @@ refused waiting used column kind bits text buffer number e n =
     let stays : eqb number 0 ≡ false = ne_eqb number 0 n in
     (rw (← e, stays), rw (← e, stays))
 
-pub put-refused : (waiting : Bool) (used column kind bits : ℕ) (text buffer : List ℕ) (e : PropertyRefusal) → Judged waiting used column kind bits text (length buffer) (Err e) →
+pub put-refused : (waiting : Bool) (used column kind bits : ℕ) (text buffer : List ℕ) (e : PropertyRefusal) →
+    (let number = refusal_of waiting used column kind bits text (length buffer) in (number_of (refused_as e) ≡ number) × (place_of e ≡ placed number (first_bad text))) →
     (put_as used (Err e) ≡ put_of waiting used column kind bits text buffer) × (buffer ≡ bytes_after waiting used column kind bits text buffer)
 put-refused waiting used column kind bits text buffer e judged =
     let stays = refused waiting used column kind bits text buffer (number_of (refused_as e)) judged.0 (is_refusal (refused_as e)) in

@@ -31,7 +31,7 @@ fn put_value(kind: u8, bits: u64, text: &[u8], out: &mut [u8])
     }
 }
 
-// A number's width. What no type is laid down as a text is, but no property of such a type is accepted.
+// A number's width. A value of no type would be laid down as a text is, but no property of such a type is accepted.
 fn number_width(kind: u8) -> Option<usize>
     ensures { WidthIs kind result }
 {

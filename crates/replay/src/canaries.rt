@@ -7,7 +7,7 @@ pub trait Canary: Copy + PartialEq {
 }
 
 impl Canary for u8 {
-    // Of a place that fits half a word, which is divided in half the time.
+    // A place is taken in half a word, which is divided in half the time.
     fn canary(place: usize) -> u8 {
         let place = (place % 4294967296) as u32;
         (place % 251) as u8

@@ -5,9 +5,10 @@ use Rattle.std.proofs.Math.Decide.{dec_lt}
 use Rattle.kinds.specs.Event.{OwnPair, xy_e}
 use Rattle.event_log.specs.Log.{heard, feature_in, record_of}
 use Rattle.nesting.specs.Rules.{limit64}
-use Rattle.nesting.specs.Machine.{Frame, of_pairs, pair_fits}
+use Rattle.nesting.specs.Machine.{Frame, number, of_pairs, pair_fits}
 use Rattle.nesting.specs.Tests.{five}
-use Rattle.nesting.specs.Taking.{Held, frame_of}
+use Rattle.nesting.specs.declared.frame.Frame.{Frame as FrameR}
+use Rattle.nesting.specs.Taking.{Is, Held, frame_of, own}
 use Rattle.wkb_events.specs.Told.{PairIn, Behind}
 use Rattle.wkb_events.specs.Walk.{pairs_on, pairs-moved}
 use Rattle.wkb_judge.specs.Rows.{part_is}
@@ -16,18 +17,18 @@ use Rattle.wkb_judge.specs.Steps.{pair_on}
 use Rattle.wkb_events.specs.declared.walk.Walk.{Walk}
 use Rattle.wkb_events.specs.declared.told.Told.TheVariants.{Pair}
 
--- a frame takes its first pair
-abbrev pub TakesFirst : Held → Type 0
-TakesFirst top = (x y : ℕ) → x < limit64 → y < limit64 → pair_fits (frame_of top) x y 0 ≡ true
+-- a frame takes its first pair, whichever open geometry it stands for
+abbrev pub TakesFirst : {K : Type 0} → (K → ℕ) → FrameR K → Type 0
+TakesFirst numbered top = (g : Frame) → Is numbered top g → (x y : ℕ) → x < limit64 → y < limit64 → pair_fits g x y 0 ≡ true
 
 -- the records from one on are so many pairs of a feature, with the indices from 0 on
 abbrev pub PairsFrom : List ℕ → ℕ → ℕ → ℕ → Type 0
 PairsFrom bytes from feature count = (j : ℕ) → j < count → Behind (record_of bytes (from + j)) feature (Pair j)
 
 -- and a frame that has none yet takes them
-pub record Inside (bytes : List ℕ) (from feature : ℕ) (top : Held) (count : ℕ) : Type 0 where
+pub record Inside {K : Type 0} (numbered : K → ℕ) (bytes : List ℕ) (from feature : ℕ) (top : FrameR K) (count : ℕ) : Type 0 where
   pub each : PairsFrom bytes from feature count
-  pub takes : 0 < count → TakesFirst top
+  pub takes : 0 < count → TakesFirst numbered top
   pub fits : count ≤ top.size
   pub last : from + count ≤ length bytes / 64
 
@@ -46,7 +47,7 @@ one_more_pair bytes from feature n before b j h = go (dec_lt j n)
     go (no k) = let e : n ≡ j = omega (arith, h, k) in subst (λ (m : ℕ). Behind (record_of bytes (from + m)) feature (Pair m)) e b
 
 module _ {bytes : List ℕ} {from feature : ℕ} {top : Held} where
-  one_less_inside : {n : ℕ} → Inside bytes from feature top (suc n) → Inside bytes from feature top n
+  one_less_inside : {n : ℕ} → Inside number bytes from feature top (suc n) → Inside number bytes from feature top n
   one_less_inside ins = record { each = λ j h. ins.each j (omega (arith, h)); takes = λ some. ins.takes (omega arith); fits = omega (arith, ins.fits); last = omega (arith, ins.last) }
 
 -- what the code found at a record
@@ -60,9 +61,9 @@ abbrev pub filled : Held → ℕ → Held
 filled top n = record { kind = top.kind; tagged = top.tagged; idx = top.idx; size = top.size; done = n }
 
 -- the pair behind n others
-next_fits : (top : Held) → top.done ≡ 0 → TakesFirst top → (n : ℕ) → n < top.size → (f : Frame) → frame_of (filled top n) ≡ f → (x y : ℕ) → x < limit64 → y < limit64 → pair_fits f x y n ≡ true
+next_fits : (top : Held) → top.done ≡ 0 → TakesFirst number top → (n : ℕ) → n < top.size → (f : Frame) → frame_of (filled top n) ≡ f → (x y : ℕ) → x < limit64 → y < limit64 → pair_fits f x y n ≡ true
 next_fits top empty takes n room f is x y x_fits y_fits =
-    let of_pairs_lem = (five (of_pairs top.kind) (ltb top.done top.size) (eqb 0 top.done) (ltb x limit64) (ltb y limit64) (takes x y x_fits y_fits)).0 in
+    let of_pairs_lem = (five (of_pairs top.kind) (ltb top.done top.size) (eqb 0 top.done) (ltb x limit64) (ltb y limit64) (takes (frame_of top) (own top) x y x_fits y_fits)).0 in
     let below : ltb n top.size ≡ true = lt-ltb n top.size room in
     let due : eqb n n ≡ true = eq-eqb n n refl in
     subst (λ (g : Frame). pair_fits g x y n ≡ true) is (λ i. of_pairs_lem i && below i && due i && lt-ltb x limit64 x_fits i && lt-ltb y limit64 y_fits i)
@@ -71,7 +72,7 @@ module _ {bytes : List ℕ} {low feature i : ℕ} {w : Walk} {top : Held} {store
   abbrev Behind-pairs : ℕ → Type 0
   Behind-pairs n = Along bytes low feature (i + n) (pairs_on w n) (filled top n) stored
 
-  pub pairs-count : (n : ℕ) → Inside bytes i feature top n → Behind-pairs n
+  pub pairs-count : (n : ℕ) → Inside number bytes i feature top n → Behind-pairs n
   pairs-count zero ins =
       let here : i ≡ i + 0 = omega arith in
       let long : w.length ≡ w.length + cond w.around.points 21 16 * 0 = omega arith in

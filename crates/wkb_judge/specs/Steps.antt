@@ -20,7 +20,7 @@ use Rattle.nesting.proofs.Sound.{reached_sound}
 use Rattle.nesting.specs.Tests.{five}
 use Rattle.nesting.specs.Taking.{Held, frame_of, ample, begins, begin_goes, begin_stops as begin-refused, Refused}
 use Rattle.wkb_written.specs.declared.around.Around.{Around}
-use Rattle.wkb_written.specs.Spelling.{outermost, spelled}
+use Rattle.wkb_written.specs.Spelling.{spelled}
 use Rattle.wkb_written.specs.Writing.{listed, alike, nested, events_in, one_feature}
 use Rattle.wkb_events.specs.Course.{reached, closes, course, course_none, nested-course, run-reached}
 use Rattle.wkb_events.specs.Told.{Behind}

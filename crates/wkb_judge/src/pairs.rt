@@ -4,12 +4,12 @@ ghost use Rattle.std.specs.Prelude.{◌/◌, ◌≤◌, length};
 ghost use Rattle.wkb_judge.specs.Inside.{Inside};
 
 use event_log::EVENT_BYTES;
-use nesting::{Frame, GeometryType};
+use nesting::{Frame, Kind};
 
 // How many of the records from one on are the pairs, from the first on, that a frame takes which has none yet.
-pub fn pairs_inside(events: &[u8], from: usize, feature: u32, frame: Frame<GeometryType>) -> u32
+pub fn pairs_inside<K: Kind>(events: &[u8], from: usize, feature: u32, frame: Frame<K>) -> u32
     requires { from ≤ length events.now / 64 }
-    ensures { Inside events.now from feature frame result }
+    ensures { Inside K.numbered events.now from feature frame result }
 {
     if !frame.takes_pair(0) {
         return 0;

@@ -6,7 +6,7 @@ use Rattle.std.proofs.lemmas.Result.{err_from_is_err_and}
 use Rattle.kinds.specs.declared.value.Value.{Value}
 use Rattle.property_reader.specs.declared.item.Property.{Property}
 use Rattle.property_reader.specs.Reading.{Item, End, Skipped, Found, property_as, end_or}
-use Rattle.property_reader.specs.ReadingSteps.{begun, leads, at-end, at_refused, at_skipped, at_full, at_last, at_next}
+use Rattle.property_reader.specs.ReadingSteps.{begun, leads, at-end, at_refusal, at_skipped, at_full_log, at_last, at_next}
 use Rattle.property_reader.proofs.read_all.Goals as goal
 
 -- the item, from the property that is answered, and from its value
@@ -35,13 +35,13 @@ property_at-requires c = c.loop-property.invariant.inside
 pub returns-in_err-property : goal.returns-in_err-property
 returns-in_err-property c =
     let gone = err_from_is_err_and c.from_residual.result c.from_residual.ensures.1 in
-    rw (gone.1, gone.2) (at_refused c.loop-property.invariant c.in_err-property.field-0.0 c.in_err-property.ensures)
+    rw (gone.1, gone.2) (at_refusal c.loop-property.invariant c.in_err-property.field-0.0 c.in_err-property.ensures)
 
 pub returns-in_err-say : goal.returns-in_err-say
 returns-in_err-say c =
     let gone = err_from_is_err_and c.from_residual-in_err-say.result c.from_residual-in_err-say.ensures.1 in
     let item = finds _ c.in-Some-value.value _ _ c.in-Some-value.is (stands _ c.in-Some.property _ c.in-Some.is c.in_ok-property.ensures) in
-    rw (gone.1, gone.2) (at_full c.loop-property.invariant c.in-Some-value.value _ item c.in_err-say.ensures)
+    rw (gone.1, gone.2) (at_full_log c.loop-property.invariant c.in-Some-value.value _ item c.in_err-say.ensures)
 
 pub returns-then-value-stop : goal.returns-then-value-stop
 returns-then-value-stop c =

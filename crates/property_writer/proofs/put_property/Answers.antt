@@ -15,7 +15,7 @@ pub returns-in_err-kind : goal.returns-in_err-kind
 returns-in_err-kind c =
     let a = c.args in
     let gone = err_from_is_err_and c.from_residual.result c.from_residual.ensures.1 in
-    let stays = put-refused a.waiting a.used a.property.column a.property.kind a.property.bits a.property.text.now a.buffer.now c.in_err-kind.field-0.0 c.in_err-kind.ensures in
+    let stays = put-refused a.waiting a.used a.property.column a.property.kind a.property.bits a.property.text.now a.buffer.now c.in_err-kind.field-0.0 (c.in_err-kind.ensures.0, c.in_err-kind.ensures.1) in
     rw (gone.1, gone.2) (record { answer = stays.0; bytes = stays.1; told = c.in_err-kind.ensures.2 })
 
 pub lay_property-requires : goal.lay_property-requires

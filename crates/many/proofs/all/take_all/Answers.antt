@@ -3,13 +3,11 @@ use Prim.Native.Nat.{ℕ, ◌<◌}
 use native.Mathlib.Omega.{arith}
 use lib.ListN.{length}
 use borrow.Author.Rules.{rules}
-use Rattle.store.specs.Lists.{lent_of}
 use Rattle.store.specs.Records.{records_lent}
-use Rattle.writing.specs.State.{Wrote, wrote, wrote_of, memory, with_pending}
+use Rattle.writing.specs.State.{Wrote, wrote, wrote_of, with_pending}
 use Rattle.writing.specs.Apart.{ready_of}
 use Rattle.asking.specs.Ask.{ask_of}
 use Rattle.writing.specs.Other.{decide_other, other-held}
-use Rattle.pools.specs.PoolsMut.{pools_now}
 use Rattle.runs.specs.Events.{took, progress}
 use Rattle.runs.specs.Run.{values_in, values_now, mem_with, lent_with, stopped_by}
 use Rattle.many.specs.Going.{begun, at-run, at-end, at_blocked, at-malformed, at_err, at-ok}
