@@ -45,7 +45,10 @@ const WAITING: u8 = 4;
 
 const NUMBERED: u8 = 8;
 
+// What makes a state of words, or words of a state, stands in its callers: where it is a call of its own, LLVM hands on the five bytes of a
+// typing through memory.
 #[tactic(auto, unfolding(crate::specs::Words::typing_of))]
+#[inline(always)]
 fn typing_of(head: u32) -> Typing
     ensures { result ≡ typing_of head }
 {
@@ -99,6 +102,7 @@ fn pending_of(words: &StateWords) -> Pending
 }
 
 #[tactic(auto, unfolding(crate::specs::Words::state_of))]
+#[inline(always)]
 pub fn state_of(words: &StateWords) -> State
     ensures { result ≡ state_of words.now }
 {
@@ -129,6 +133,7 @@ fn mark(on: bool, bit: u8) -> u8
 }
 
 #[tactic(auto, unfolding(crate::specs::Words::head_of))]
+#[inline(always)]
 fn head_of(typing: Typing, waiting: bool, numbered: bool) -> u32
     ensures { result ≡ head_of typing waiting numbered }
 {
@@ -141,6 +146,7 @@ fn head_of(typing: Typing, waiting: bool, numbered: bool) -> u32
 
 // Word by word as the header has them, so that each stands beside its place.
 #[tactic(auto, unfolding(crate::specs::Words::words_of, crate::specs::Words::words_of_pending))]
+#[inline(always)]
 pub fn words_of(s: State) -> StateWords
     ensures { result ≡ words_of s }
 {
@@ -167,6 +173,7 @@ pub fn words_of(s: State) -> StateWords
 // Keeps the state that comes with a number, where the number is that of done, and gives the number. With any other the words stay as
 // they were.
 #[tactic(auto, unfolding(crate::specs::Words::words_after))]
+#[inline(always)]
 pub fn keep_numbered(words: &mut StateWords, number: u8, state: State) -> u8
     ensures value { result ≡ number }
     ensures words_after { words.new ≡ words_after words.old (wrote number state) }
@@ -179,6 +186,7 @@ pub fn keep_numbered(words: &mut StateWords, number: u8, state: State) -> u8
 
 // Keeps the state that a call handed back, and gives its number. A refusal leaves the words as they were.
 #[tactic(auto, unfolding(crate::specs::Words::words_after))]
+#[inline(always)]
 pub fn keep(words: &mut StateWords, wrote: Result<State, Refusal>) -> u8
     ensures value { result ≡ answer_of wrote }
     ensures words_after { (s : State) → words.new ≡ words_after words.old (wrote_of s wrote) }

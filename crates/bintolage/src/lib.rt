@@ -22,7 +22,7 @@ ghost use Rattle.bbox.specs.Edges.{edges_of};
 ghost use Rattle.as_words.specs.Words.{state_of, words_of, words_after};
 ghost use Rattle.bintolage.specs.Calls.{yes, one, kept, kept_of, taken as taken_with, taken_of};
 
-use as_words::state::{StateWords, keep, keep_all, state_of, words_of};
+use as_words::state::{StateWords, keep, keep_all, keep_numbered, state_of, words_of};
 use bbox::{Box, edges_of};
 use event_log::{Events, Log};
 use kinds::event::Xy;
@@ -132,7 +132,7 @@ pub fn bintolage_property(
     match writer::property(state_of(state), property, buffer) {
         Ok(after) => {
             *place = 0;
-            keep(state, Ok(after))
+            keep_numbered(state, 0, after)
         }
         Err(refused) => {
             *place = refused.place();

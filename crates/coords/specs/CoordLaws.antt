@@ -1,26 +1,29 @@
 -- The coordinate walk, unrolled by one turn of the loop that says it, and the windows that it walks.
 use Rattle.std.specs.Borrow.{Bor}
-use Rattle.std.specs.Prelude.{◌≡◌, refl, Option as OptionR, Some, None, Result, Bool, ◌&&◌, List, [], ◌∷◌, ℕ, ◌+◌, ◌-◌, ◌*◌, ◌/◌, ◌%◌, ◌<◌, ◌≤◌, min, drop, get_or, ltb}
+use Rattle.std.specs.Prelude.{◌≡◌, refl, Option as OptionR, Some, None, Result, Bool, ◌&&◌, List, [], ◌∷◌, ℕ, zero, suc, ◌+◌, ◌-◌, ◌*◌, ◌/◌, ◌%◌, ◌<◌, ◌≤◌, min, drop, get_or, ltb, eqb}
 use Rattle.std.proofs.Math.Path.{ap}
-use Rattle.std.proofs.Common.{Ok, Err, sym, ◌∙◌, add-one, drop-cons}
-use Rattle.std.proofs.Math.Bool.{false, cond}
+use Rattle.std.proofs.Common.{Ok, Err, sym, ◌∙◌, add-one, drop-cons, eqb-true}
+use Rattle.std.proofs.Math.Bool.{true, false, cond}
+use Rattle.std.proofs.Math.Option.{Option, none, some}
 use native.Mathlib.Omega.{arith}
 use Rattle.std.proofs.Math.ListN.{length, take, drop_of_length-le, length-drop}
 use Rattle.std.proofs.Math.Seq.{take_all, take-nil}
-use Rattle.laws.specs.Script.{Script, Format, stop, say, one, ◌⨟◌}
+use Rattle.laws.specs.Every.{never}
+use Rattle.laws.specs.Framed.{framed, seq_seq}
+use Rattle.laws.specs.Script.{Script, stop, say, one, ◌⨟◌, run, run_stop, seq_done}
 use Rattle.kinds.specs.declared.event.Event.{Event}
 use Rattle.kinds.specs.Event.{xy_e}
 use Rattle.kinds.specs.declared.refusal.Refusal.{Refusal}
 use Rattle.kinds.specs.Refusal.{number_of, answer_of}
 use Rattle.coords.specs.declared.lists.Lists.{Lists}
 use Rattle.coords.specs.declared.lists.Window.{Window}
-use Rattle.coords.specs.Coords.{Lanes, dropped, tails, pair_s, coords_s, between_s}
-use Rattle.coords.specs.Views.{list_in, coords_in, window_s, told, Windowed}
+use Rattle.coords.specs.Coords.{Value, Absent, Past, Present, Lanes, Coords, head_of, dropped, tails, taken, coordinate_s, pair_s, coords_s, between_s}
+use Rattle.coords.specs.Views.{list_in, coords_in, pairs_in, window_s, told, Windowed, Numbered}
 use Rattle.coords.specs.PairLaws.{tails-dropped}
 use Rattle.event_log.specs.declared.log.Log.{Log}
-use Rattle.event_log.specs.Pairs.{xy_s, xy-then}
-use Rattle.event_log.specs.Says.{Says}
-use Rattle.event_log.specs.SaysLaws.{nothing, refuses}
+use Rattle.event_log.specs.Pairs.{xy_s}
+use Rattle.event_log.specs.declared.layouts.Events.{Events}
+use Rattle.event_log.specs.Says.{Says, of_events}
 use Rattle.std.proofs.Math.Decide.{dec_le}
 
 pub drop-one : (l : List ℕ) (i : ℕ) → i < length l → drop i l ≡ get_or l i 0 ∷ drop (i + 1) l
@@ -80,13 +83,61 @@ plain-pairs L [] idx last = refl
 plain-pairs L (x ∷ []) idx last = refl
 plain-pairs L (x ∷ (y ∷ l)) idx last = ap (λ (s : Script Event). say (xy_e x y idx) s) (plain-pairs (tails L) l (idx + 1) last)
 
-pub plain-then : {many : Bool} (L : Lanes) (l : List ℕ) (last : ℕ) → many ≡ false → coords_s many L l 0 last ≡ xy_s l 0 0 ⨟ stop last
-plain-then L l last h = rw h (plain-pairs L l 0 last ∙ xy-then l 0 last)
+-- ---- what stands after the pairs of a window, apart from them
+taken-then : (v : Value) (f g : Option ℕ → Script Event) (t : Script Event) → ((o : Option ℕ) → f o ≡ g o ⨟ t) → taken v f ≡ taken v g ⨟ t
+unfolding taken ◌⨟◌
+taken-then Absent f g t h = h none
+taken-then Past f g t h = refl
+taken-then (Present v) f g t h = h (some v)
 
--- an answer alone
-pub answers : {L : Type 0} (format : L → Format Event) (r : Result Unit Refusal) (a : Log L) → Says format (stop (answer_of r)) a a r
-answers format (Ok u) a = nothing format a
-answers format (Err e) a = refuses format e a
+pair-then : (many : Bool) (L : Lanes) (x y idx : ℕ) (k t : Script Event) → pair_s many L x y idx (k ⨟ t) ≡ pair_s many L x y idx k ⨟ t
+unfolding pair_s coordinate_s ◌⨟◌
+pair-then false L x y idx k t = refl
+pair-then true L x y idx k t =
+    taken-then (head_of L.z) _ _ t (λ a. taken-then (head_of L.m) _ _ t (λ b. taken-then (head_of L.t) _ _ t (λ c. taken-then (head_of L.tm) _ _ t (λ d. refl))))
+
+coords-then : (many : Bool) (L : Lanes) (l : List ℕ) (idx last : ℕ) → coords_s many L l idx last ≡ coords_s many L l idx 0 ⨟ stop last
+unfolding coords_s ◌⨟◌
+coords-then many L [] idx last = refl
+coords-then many L (x ∷ []) idx last = refl
+coords-then many L (x ∷ (y ∷ l)) idx last =
+    ap (pair_s many L x y idx) (coords-then many (tails L) l (idx + 1) last)
+    ∙ pair-then many L x y idx (coords_s many (tails L) l (idx + 1) 0) (stop last)
+
+pub window_framed : {A : Type 0} (number : A → ℕ) (C : Coords) (w : Window A) (x z : Event)
+    → framed x (window_s number C w) z ≡ (one x ⨟ pairs_in C w.from w.words.now) ⨟ (stop (number w.last) ⨟ one z)
+unfolding framed ◌⨟◌
+window_framed number C w x z =
+    let p = pairs_in C w.from w.words.now in
+    ap (λ (s : Script Event). say x (s ⨟ one z)) (coords-then C.many (dropped w.from C.lanes) w.words.now 0 (number w.last))
+    ∙ ap (say x) (seq_seq p (stop (number w.last)) (one z))
+
+pub stands : (n : ℕ) (t : Script Event) → eqb n 0 ≡ false → stop n ⨟ t ≡ stop n
+unfolding ◌⨟◌
+stands zero t h = absurd (never (sym h))
+stands (suc n) t h = refl
+
+pub none_stands : (n : ℕ) (t : Script Event) → eqb n 0 ≡ true → stop n ⨟ t ≡ t
+unfolding ◌⨟◌
+none_stands n t h = rw (eqb-true n 0 h)
+
+-- ---- an answer and its number
+pub numbered : {R : Type 0} {s : Script Event} {a b : Log Events} {r : Result R Refusal} {n : ℕ} → n ≡ answer_of r → Says of_events s a b r → Numbered s a b n
+numbered e h = record { memory = h.memory; layout = h.layout; said = rw e h.said }
+
+pub answered : {s : Script Event} {a b : Log Events} {r : Result Unit Refusal} → Numbered s a b (answer_of r) → Says of_events s a b r
+answered h = record { memory = h.memory; layout = h.layout; said = h.said }
+
+pub number_alone : (n : ℕ) (a : Log Events) → Numbered (stop n) a a n
+number_alone n a = record { memory = refl; layout = refl; said = run_stop (of_events a.layout) n a.bytes.now a.count }
+
+pub and_then : {R : Type 0} {u : R} {s t : Script Event} {a b c : Log Events} {n : ℕ} → Says of_events s a b (Ok u) → Numbered t b c n → Numbered (s ⨟ t) a c n
+and_then {s = s} {t = t} {a = a} {b = b} first second =
+    record {
+      memory = second.memory ∙ first.memory;
+      layout = second.layout ∙ first.layout;
+      said = seq_done (of_events a.layout) s t a.bytes.now a.count first.said ∙ ap (λ (l : Events). run (of_events l) t b.bytes.now b.count) (sym first.layout) ∙ second.said;
+    }
 
 -- ---- windows
 same_words : (from to : ℕ) (l : List ℕ) → from ≤ to → take (min (length l) (2 * to) - min (length l) (2 * from)) (drop (min (length l) (2 * from)) l) ≡ take (2 * to - 2 * from) (drop (2 * from) l)
@@ -118,5 +169,5 @@ module _ (many : Bool) (L : Lanes) (from to : ℕ) {o : OptionR (Bor (List ℕ))
   window_some {l} last h k p q e = rw (h, p, q, same_words from to l.now k, e)
 
 -- the window that holds them says what is between two pairs of a record's lists
-pub between_is : (l : Lists) {from to : ℕ} {w : Window} → Windowed l.xy from to w → between_s l.many (list_in l.xy) (coords_in l).lanes from to ≡ window_s (coords_in l) w
-between_is l {w = w} h = h.says l.many (coords_in l).lanes ∙ ap (λ (k : ℕ). coords_s l.many (dropped k (coords_in l).lanes) w.words.now 0 (answer_of w.last)) (sym h.from_is)
+pub between_is : {A : Type 0} {number : A → ℕ} (l : Lists) {from to : ℕ} {w : Window A} → Windowed number l.xy from to w → between_s l.many (list_in l.xy) (coords_in l).lanes from to ≡ window_s number (coords_in l) w
+between_is {number = number} l {w = w} h = h.says l.many (coords_in l).lanes ∙ ap (λ (k : ℕ). coords_s l.many (dropped k (coords_in l).lanes) w.words.now 0 (number w.last)) (sym h.from_is)

@@ -2,8 +2,6 @@
 ghost use Rattle.std.specs.Option.{ForSome};
 ghost use Rattle.std.specs.Prelude.{◌≤◌, length};
 
-use kinds::refusal::Refusal;
-
 // A record's own lists, as the flags let them be seen.
 #[derive(Clone, Copy)]
 pub struct Lists<'a> {
@@ -22,10 +20,10 @@ pub struct Lists<'a> {
 
 // A stretch of a record's xy words.
 #[derive(Clone, Copy)]
-pub struct Window<'a> {
+pub struct Window<'a, A> {
     pub words: &'a [u64],
     // The number in the record of its first pair.
     pub from: u32,
     // What stands after its last pair.
-    pub last: Result<(), Refusal>,
+    pub last: A,
 }

@@ -1,14 +1,15 @@
 // The stretch of the xy list that a walk goes over: from pair to pair, doubled to words.
 ghost use Rattle.std.specs.Prelude.{◌≤◌, ◌<◌};
+ghost use Rattle.kinds.specs.Refusal.{answer_of};
 ghost use Rattle.coords.specs.Views.{Windowed};
 
 use crate::lists::Window;
 use kinds::refusal::Refusal;
 
 // The pairs from number `from` to number `to` of a list of words, as far as it has them.
-pub fn between<'a>(xy: Option<&'a [u64]>, from: u32, to: u32) -> Window<'a>
+pub fn between<'a>(xy: Option<&'a [u64]>, from: u32, to: u32) -> Window<'a, Result<(), Refusal>>
     requires { (from ≤ to) × (to < 2147483648) }
-    ensures { Windowed xy.entry from to result }
+    ensures { Windowed answer_of xy.entry from to result }
 {
     let Some(xy) = xy else {
         return Window {

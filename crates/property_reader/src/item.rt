@@ -18,7 +18,9 @@ pub struct Property {
     pub next: usize,
 }
 
-// None where the bytes are read to their end. One trailing byte is no property.
+// None where the bytes are read to their end. One trailing byte is no property. It stands in the loop over the properties, as do those that
+// it calls: as calls of their own, LLVM hands on each property through memory.
+#[inline(always)]
 pub fn property_at(
     bytes: &[u8],
     columns: &[u8],
@@ -39,6 +41,7 @@ pub fn property_at(
     Ok(Some(property))
 }
 
+#[inline(always)]
 fn value_at(bytes: &[u8], column: u16, kind: u8, at: usize) -> Result<Property, PropertyRefusal>
     requires { at ≤ length bytes.now }
     ensures { item_as result ≡ value_at bytes.now column kind at }
@@ -55,6 +58,7 @@ fn value_at(bytes: &[u8], column: u16, kind: u8, at: usize) -> Result<Property, 
     }
 }
 
+#[inline(always)]
 fn number_at(
     bytes: &[u8],
     column: u16,
@@ -95,6 +99,7 @@ fn bits_at(bytes: &[u8], at: usize, len: usize) -> u64
 }
 
 // A value with a length first.
+#[inline(always)]
 fn text_at(
     bytes: &[u8],
     column: u16,
@@ -110,6 +115,7 @@ fn text_at(
     bytes_at(bytes, column, kind, at + 4, u32_at(bytes, at))
 }
 
+#[inline(always)]
 fn bytes_at(
     bytes: &[u8],
     column: u16,

@@ -5,18 +5,16 @@ ghost use Rattle.property_value.specs.Column.{WidthIs, is_text};
 
 use kinds::column_type::ColumnType;
 
+// How many bytes a number of each type has, by the type's number, and 0 for the types that have a length first. It is looked up, so that
+// a compiler jumps nowhere.
+const WIDTHS: [usize; 15] = [1, 1, 1, 2, 2, 4, 4, 8, 8, 4, 8, 0, 0, 0, 0];
+
 // How many bytes a number has, and none for the types that have a length first.
-#[tactic(auto, unfolding(crate::specs::Column::width_of))]
 pub fn width(kind: ColumnType) -> Option<usize>
     ensures { WidthIs (type_number kind) result }
 {
-    match kind {
-        ColumnType::Byte | ColumnType::UByte | ColumnType::Bool => Some(1),
-        ColumnType::Short | ColumnType::UShort => Some(2),
-        ColumnType::Int | ColumnType::UInt | ColumnType::Float => Some(4),
-        ColumnType::Long | ColumnType::ULong | ColumnType::Double => Some(8),
-        ColumnType::String | ColumnType::Json | ColumnType::DateTime | ColumnType::Binary => None,
-    }
+    let width = WIDTHS[kind.number() as usize];
+    if width == 0 { None } else { Some(width) }
 }
 
 // Whether the bytes of a type's values are to be UTF-8.

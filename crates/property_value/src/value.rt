@@ -7,21 +7,32 @@ use crate::column::is_text;
 use kinds::column_type::ColumnType;
 use utf8::first_bad;
 
-// Eight bytes hold any bits, and those of a text are passed over. A value of no type is malformed whatever its bits are.
-#[tactic(auto, unfolding(crate::specs::Value::malformed, crate::specs::Column::width_of))]
+// The most that the bits of a value are, by the type's number. Eight bytes hold any bits, and those of a text are passed over.
+const MOST: [u64; 15] = [
+    0xff, // Byte
+    0xff, // UByte
+    1, // Bool
+    0xffff, // Short
+    0xffff, // UShort
+    0xffff_ffff, // Int
+    0xffff_ffff, // UInt
+    u64::MAX, // Long
+    u64::MAX, // ULong
+    0xffff_ffff, // Float
+    u64::MAX, // Double
+    u64::MAX, // String
+    u64::MAX, // Json
+    u64::MAX, // DateTime
+    u64::MAX, // Binary
+];
+
+// A value of no type is malformed whatever its bits are.
 pub fn is_malformed(kind: u8, bits: u64) -> bool
     ensures { result ≡ malformed kind bits }
 {
-    let Ok(kind) = ColumnType::try_from(kind) else {
-        return true;
-    };
-    match kind {
-        ColumnType::Byte | ColumnType::UByte => bits >= 0x100,
-        ColumnType::Bool => bits > 1,
-        ColumnType::Short | ColumnType::UShort => bits >= 0x1_0000,
-        ColumnType::Int | ColumnType::UInt | ColumnType::Float => bits >= 0x1_0000_0000,
-        ColumnType::Long | ColumnType::ULong | ColumnType::Double => false,
-        ColumnType::String | ColumnType::Json | ColumnType::DateTime | ColumnType::Binary => false,
+    match ColumnType::try_from(kind) {
+        Ok(kind) => bits > MOST[kind.number() as usize],
+        Err(_) => true,
     }
 }
 

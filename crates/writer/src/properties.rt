@@ -9,7 +9,9 @@ use property_writer::{Property, put_property};
 use writing::state::State;
 
 // Lays a value down after the feature's other property bytes. Refused: 15, 16, 11, 6, 12.
+// It stands in its callers, as what makes a state of words does, and for the same reason; so it changes a copy of the whole state.
 #[tactic(auto, unfolding(crate::specs::Property::property_call, crate::specs::Property::property_place))]
+#[inline(always)]
 pub fn property(s: State, property: Property, buffer: &mut [u8]) -> Result<State, PropertyRefusal>
     ensures answer { let p = property.entry in
         wrote_as s result ≡ property_call s p.column p.kind p.bits p.text.now buffer.old }
@@ -19,6 +21,7 @@ pub fn property(s: State, property: Property, buffer: &mut [u8]) -> Result<State
         buffer.new ≡ bytes_after s.waiting s.properties p.column p.kind p.bits p.text.now buffer.old }
     ensures told { Told result }
 {
-    let properties = put_property(s.waiting, s.properties, property, buffer)?;
-    Ok(State { properties, ..s })
+    let mut after = s;
+    after.properties = put_property(s.waiting, s.properties, property, buffer)?;
+    Ok(after)
 }

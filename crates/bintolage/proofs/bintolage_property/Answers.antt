@@ -3,4 +3,4 @@ use Rattle.as_words.specs.Words.{words_after}
 use Rattle.bintolage.proofs.bintolage_property.Goals as goal
 
 pub returns-in-Ok-clause-words : goal.returns-in-Ok-clause-words
-returns-in-Ok-clause-words c = c.keep.ensures.words_after c.state_of.result ∙ ap (words_after c.args.state.now) (rw c.state_of.ensures at c.in-Ok.ensures.answer)
+returns-in-Ok-clause-words c = c.keep_numbered.ensures.words_after ∙ ap (words_after c.args.state.now) (rw c.state_of.ensures at c.in-Ok.ensures.answer)

@@ -1,4 +1,7 @@
+use Rattle.std.specs.Prelude.{◌≡◌}
 use Rattle.std.proofs.Common.{arith, subst, ap, ◌∙◌}
+use Rattle.kinds.specs.Refusal.{number_of}
+use Rattle.property_value.specs.Refused.{refusal_of}
 use Rattle.laws.specs.Cut.{said}
 use Rattle.event_log.specs.Values.{values}
 use Rattle.bintolage.specs.Calls.{yes, one}
@@ -23,4 +26,5 @@ returns-in-Err c =
     let read = c.read_properties-read in
     let p = properties_are a.bytes.now (yes a.has_columns) a.columns a.stop c.then_some-columns.ensures read.ensures.log_value read.ensures.stopped_value read.ensures.place_value in
     let q = subst (PropertiesAre a.bytes.now (yes a.has_columns) a.columns.now a.stop a.log.now read.result.count read.new.log) c.in-Err.is p in
-    rw (c.number.ensures, c.refusal.ensures, c.place.ensures) (record { said = q.says; stop = ap one q.stops; place = q.place })
+    let number : c.number.result ≡ number_of (refusal_of c.in-Err.refused) = cc in
+    rw number (record { said = q.says; stop = ap one q.stops; place = omega (arith, q.place) })

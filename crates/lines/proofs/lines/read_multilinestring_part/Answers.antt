@@ -1,7 +1,7 @@
 use Rattle.event_log.specs.Says.{of_events}
 use Rattle.event_log.specs.SaysLaws.{refuses}
 use Rattle.coords.specs.Views.{coords_in}
-use Rattle.coords.specs.CoordLaws.{between_is}
+use Rattle.coords.specs.CoordLaws.{answered, between_is}
 use Rattle.lines.specs.LineLaws.{stretch_bad, stretch_good}
 use Rattle.lines.proofs.lines.read_multilinestring_part.Goals as goal
 
@@ -12,4 +12,4 @@ pub read_window-requires : goal.read_window-requires
 read_window-requires c = c.between.ensures.within 131072 c.args.lists.now.few_words
 
 pub returns : goal.returns
-returns c = let a = c.args in rw (stretch_good (coords_in a.lists.now) a.before a.end a.idx c.bad_end.ensures c.if-bad_end.false (between_is a.lists.now c.between.ensures)) (rw c.number.ensures.is at c.read_window.ensures)
+returns c = let a = c.args in rw (stretch_good (coords_in a.lists.now) a.before a.end a.idx c.bad_end.ensures c.if-bad_end.false (between_is a.lists.now c.between.ensures)) (answered (rw c.number.ensures.is at c.read_window.ensures))
