@@ -45,8 +45,8 @@ const WAITING: u8 = 4;
 
 const NUMBERED: u8 = 8;
 
-// What makes a state of words, or words of a state, stands in its callers: where it is a call of its own, LLVM hands on the five bytes of a
-// typing through memory.
+// Marked, as state_of() and what keeps a state are, since LLVM else lays the five bytes of a typing on the stack in bintolage_property() and
+// reads them back.
 #[tactic(auto, unfolding(crate::specs::Words::typing_of))]
 #[inline(always)]
 fn typing_of(head: u32) -> Typing

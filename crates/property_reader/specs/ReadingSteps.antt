@@ -151,33 +151,36 @@ module _ {bytes columns : List ℕ} {last : ℕ} {a b : Log Values} {at : ℕ} (
           told = proper refusal (λ six. omega (arith, one_nine values value b.bytes.now b.count said.said (refused refusal)));
         }
 
-    module _ {R : Type 0} {u : R} {c : Log Values} (said : Says of_values (one value) b c (Ok u)) where
+    module _ (c : Log Values) {number : ℕ} (said : run values (one value) b.bytes.now b.count ≡ out number c.count c.bytes.now) (done : number ≡ 0) where
       runs_after : run values (properties_from bytes columns last 0) a.bytes.now a.count ≡ run values later c.bytes.now c.count
-      runs_after = runs_one ∙ seq_done values (one value) later b.bytes.now b.count said.said
+      runs_after = runs_one ∙ seq_done values (one value) later b.bytes.now b.count (said ∙ ap (λ (n : ℕ). out n c.count c.bytes.now) done)
 
-      pub at_last : value.column ≡ last → Read bytes columns last a c (Ok true)
+      pub at_last : value.column ≡ last → Ended bytes columns last a c 0 true 0
       unfolding on_item says stopped later placed
       at_last h =
           let t = eq-eqb value.column last h in
-          record {
-            memory = said.memory ∙ g.memory;
-            log_value = runs_after ∙ rw t (run_stop values 0 c.bytes.now c.count);
-            stopped_value = sym (says_on (Found value next) e ∙ rw t);
-            place_value = refl;
-            told = tt;
-          }
+          (runs_after ∙ rw t (run_stop values 0 c.bytes.now c.count), sym (says_on (Found value next) e ∙ rw t), refl)
 
-      pub at_next : (value.column ≡ last → ⊥) → Going bytes columns last a c next
+      pub at_next : (value.column ≡ last → ⊥) → c.bytes.ghost_name ≡ b.bytes.ghost_name → Going bytes columns last a c next
       unfolding on_item says later
-      at_next h =
+      at_next h memory =
           let t = ne_eqb value.column last h in
           record {
             inside = (found_ahead value next e).1;
-            memory = said.memory ∙ g.memory;
+            memory = memory ∙ g.memory;
             same-run = rw t at runs_after;
             same-says = rw t at (says_on (Found value next) e);
             same_bad = rw t at (bad_on (Found value next) e);
           }
+
+    module _ {R : Type 0} {u : R} {c : Log Values} (said : Says of_values (one value) b c (Ok u)) where
+      pub at_last_said : value.column ≡ last → Read bytes columns last a c (Ok true)
+      at_last_said h =
+          let ended = at_last c said.said refl h in
+          record { memory = said.memory ∙ g.memory; log_value = ended.0; stopped_value = ended.1; place_value = ended.2; told = tt }
+
+      pub at_next_said : (value.column ≡ last → ⊥) → Going bytes columns last a c next
+      at_next_said h = at_next c said.said refl h said.memory
 
 -- ---- the usable bytes
 

@@ -18,8 +18,8 @@ pub struct Property {
     pub next: usize,
 }
 
-// None where the bytes are read to their end. One trailing byte is no property. It stands in the loop over the properties, as do those that
-// it calls: as calls of their own, LLVM hands on each property through memory.
+// None where the bytes are read to their end. One trailing byte is no property. Marked, as those that it
+// calls are, since LLVM then puts the parts of a property into one word a time less.
 #[inline(always)]
 pub fn property_at(
     bytes: &[u8],

@@ -9,7 +9,8 @@ use Rattle.nesting.specs.Events.{Event}
 use Rattle.nesting.specs.Machine.{Frame, State, within, start, taken, step}
 use Rattle.nesting.specs.Flat.{read}
 use Rattle.nesting.specs.Levels.{any_depth, sixteen}
-use Rattle.nesting.specs.Taking.{Held, frame_of, Refused}
+use Rattle.nesting.specs.Taking.{Is, Refused}
+use Rattle.nesting.specs.declared.frame.Frame.{Frame as FrameR}
 use Rattle.wkb_written.specs.declared.around.Around.{Around}
 use Rattle.wkb_written.specs.Spelling.{outermost, after, bytes_of, spelled}
 use Rattle.wkb_written.specs.SpellingLaws.{event_bound}
@@ -21,10 +22,13 @@ use Rattle.wkb_judge.specs.Passing.{In, SlotOf}
 use Rattle.wkb_events.specs.declared.walk.Walk.{Walk}
 
 -- ---- what a pass knows of the machine
--- each open geometry of the window but the innermost is kept in its slot
-abbrev pub Kept : ℕ → List Held → List Frame → Type 0
-Kept low stored [] = Unit {0}
-Kept low stored (f ∷ fs) = (In low (length fs) → (d : Held) → frame_of (get_or stored (length fs - low) d) ≡ f) × Kept low stored fs
+-- The code's frames have kinds of any K, by what numbers them. Where K is GeometryType, `Is number top f` and `frame_of top ≡ f` say the same
+-- (Taking.own, own_is).
+module _ {K : Type 0} (numbered : K → ℕ) where
+  -- each open geometry of the window but the innermost is kept in its slot
+  abbrev pub Kept : ℕ → List (FrameR K) → List Frame → Type 0
+  Kept low stored [] = Unit {0}
+  Kept low stored (f ∷ fs) = (In low (length fs) → (d : FrameR K) → Is numbered (get_or stored (length fs - low) d) f) × Kept low stored fs
 
 -- with sixteen levels the machine stands there too, or refused an event that went deeper
 abbrev pub Shallow : Bool → (List Flat → List Flat) → State → Type 0
@@ -32,12 +36,12 @@ Shallow false puts s = (l : List Flat) → course sixteen (map read (puts l)) st
 Shallow true puts s = (l : List Flat) → closes (course sixteen (map read (puts l)) start) ≡ false
 
 -- `puts` has the events so far before those that follow
-pub record On (low : ℕ) (puts : List Flat → List Flat) (w : Walk) (top : Held) (stored : List Held) (f : Frame) (fs : List Frame) : Type 0 where
+pub record On {K : Type 0} (numbered : K → ℕ) (low : ℕ) (puts : List Flat → List Flat) (w : Walk) (top : FrameR K) (stored : List (FrameR K)) (f : Frame) (fs : List Frame) : Type 0 where
   pub goes : (l : List Flat) → course any_depth (map read (puts l)) start ≡ course any_depth (map read l) (within f fs)
   pub shallow : Shallow w.deep puts (within f fs)
   pub tall : w.height ≡ length fs
-  pub innermost : In low (length fs) → frame_of top ≡ f
-  pub kept : Kept low stored fs
+  pub innermost : In low (length fs) → Is numbered top f
+  pub kept : Kept numbered low stored fs
 
 pub record Off (low : ℕ) (puts : List Flat → List Flat) (highest : ℕ) : Type 0 where
   pub height : ℕ
@@ -45,11 +49,11 @@ pub record Off (low : ℕ) (puts : List Flat → List Flat) (highest : ℕ) : Ty
   pub unseen : In low height → ⊥
   pub most : height ≤ highest
 
-pub data Stands (low : ℕ) (puts : List Flat → List Flat) (w : Walk) (top : Held) (stored : List Held) : Type 0 where
-  on : (f : Frame) (fs : List Frame) → On low puts w top stored f fs → Stands low puts w top stored
-  off : Off low puts w.highest → Stands low puts w top stored
+pub data Stands {K : Type 0} (numbered : K → ℕ) (low : ℕ) (puts : List Flat → List Flat) (w : Walk) (top : FrameR K) (stored : List (FrameR K)) : Type 0 where
+  on : (f : Frame) (fs : List Frame) → On numbered low puts w top stored f fs → Stands numbered low puts w top stored
+  off : Off low puts w.highest → Stands numbered low puts w top stored
 
-pub record Along (bytes : List ℕ) (low feature i : ℕ) (w : Walk) (top : Held) (stored : List Held) : Type 0 where
+pub record Along {K : Type 0} (numbered : K → ℕ) (bytes : List ℕ) (low feature i : ℕ) (w : Walk) (top : FrameR K) (stored : List (FrameR K)) : Type 0 where
   pub puts : List Flat → List Flat
   pub listing : events_in bytes ≡ lifted puts (listed (records_in bytes - i) i bytes)
   pub one : alike (records_in bytes) 0 bytes feature ≡ alike (records_in bytes - i) i bytes feature
@@ -57,14 +61,14 @@ pub record Along (bytes : List ℕ) (low feature i : ℕ) (w : Walk) (top : Held
   pub high : w.height ≤ w.highest
   pub few : w.highest ≤ i
   pub short : w.length ≤ 21 * i
-  pub stands : Stands low puts w top stored
+  pub stands : Stands numbered low puts w top stored
 
 -- ---- the slots
-module _ (low k : ℕ) (v : Held) (stored : List Held) where
-  pub kept_apart : (fs : List Frame) → ((h : ℕ) → In low h → h < length fs → h - low ≡ k → ⊥) → Kept low stored fs → Kept low (set stored k v) fs
+module _ {K : Type 0} (numbered : K → ℕ) (low k : ℕ) (v : FrameR K) (stored : List (FrameR K)) where
+  pub kept_apart : (fs : List Frame) → ((h : ℕ) → In low h → h < length fs → h - low ≡ k → ⊥) → Kept numbered low stored fs → Kept numbered low (set stored k v) fs
   kept_apart [] apart kept = tt
   kept_apart (f ∷ fs) apart kept = (
-    λ seen d. subst (λ (g : Held). frame_of g ≡ f) (sym (get_or-set_other stored k (length fs - low) v d (apart (length fs) seen (omega arith)))) (kept.0 seen d),
+    λ seen d. subst (λ (g : FrameR K). Is numbered g f) (sym (get_or-set_other stored k (length fs - low) v d (apart (length fs) seen (omega arith)))) (kept.0 seen d),
     kept_apart fs (λ h seen less. apart h seen (omega arith)) kept.1,
   )
 
@@ -76,10 +80,10 @@ slot_apart low height k s h seen less e = go (dec_lt k 256)
     go (yes below) = let i = s.back below in omega (arith, i.0, s.seen i, seen.0)
     go (no over) = omega (arith, s.most, seen.0, seen.1)
 
-pub kept_on : (low k : ℕ) (top : Held) (stored : List Held) (f : Frame) (fs : List Frame) → k < length stored → SlotOf low (length fs) k → (In low (length fs) → frame_of top ≡ f) → Kept low stored fs → Kept low (set stored k top) (f ∷ fs)
-kept_on low k top stored f fs room s innermost kept = (
-  λ seen d. subst (λ (g : Held). frame_of g ≡ f) (sym (ap (λ (j : ℕ). get_or (set stored k top) j d) (sym (s.seen seen)) ∙ get_or-set_same stored k top d room)) (innermost seen),
-  kept_apart low k top stored fs (slot_apart low (length fs) k s) kept,
+pub kept_on : {K : Type 0} (numbered : K → ℕ) (low k : ℕ) (top : FrameR K) (stored : List (FrameR K)) (f : Frame) (fs : List Frame) → k < length stored → SlotOf low (length fs) k → (In low (length fs) → Is numbered top f) → Kept numbered low stored fs → Kept numbered low (set stored k top) (f ∷ fs)
+kept_on {K} numbered low k top stored f fs room s innermost kept = (
+  λ seen d. subst (λ (g : FrameR K). Is numbered g f) (sym (ap (λ (j : ℕ). get_or (set stored k top) j d) (sym (s.seen seen)) ∙ get_or-set_same stored k top d room)) (innermost seen),
+  kept_apart numbered low k top stored fs (slot_apart low (length fs) k s) kept,
 )
 
 -- ---- one event more
@@ -95,7 +99,7 @@ shallow_on puts s t e v reads goes deep next is h = subst (λ (b : Bool). Shallo
     go false d true h = λ l. h (e ∷ l)
     go false d false h = λ l. h (e ∷ l) ∙ at-event l ∙ course_goes sixteen s t v (map read l) (same_step s v d ∙ goes)
 
-module _ {low : ℕ} {puts : List Flat → List Flat} {w : Walk} {top : Held} {stored : List Held} {f : Frame} {fs : List Frame} (o : On low puts w top stored f fs) (e : Flat) (v : Event) (reads : read e ≡ v) where
+module _ {K : Type 0} {numbered : K → ℕ} {low : ℕ} {puts : List Flat → List Flat} {w : Walk} {top : FrameR K} {stored : List (FrameR K)} {f : Frame} {fs : List Frame} (o : On numbered low puts w top stored f fs) (e : Flat) (v : Event) (reads : read e ≡ v) where
   at-event : (l : List Flat) → course any_depth (map read (puts (e ∷ l))) start ≡ course any_depth (v ∷ map read l) (within f fs)
   at-event l = o.goes (e ∷ l) ∙ ap (λ (u : Event). course any_depth (u ∷ map read l) (within f fs)) reads
 
@@ -103,8 +107,8 @@ module _ {low : ℕ} {puts : List Flat → List Flat} {w : Walk} {top : Held} {s
   pub refused_here : Refused (step any_depth (within f fs) v) → (l : List Flat) → nested any_depth (puts (e ∷ l)) ≡ false
   refused_here stops l = nested-course any_depth (puts (e ∷ l)) ∙ ap closes (at-event l ∙ course_falls any_depth (within f fs) v (map read l) stops)
 
-  module _ {height : ℕ} {r : Walk} (moved : Moved w v height r) {next : Held} {kept : List Held} where
-    pub taken_on : (g : Frame) (gs : List Frame) → step any_depth (within f fs) v ≡ taken (within g gs) → height ≡ length gs → (In low (length gs) → frame_of next ≡ g) → Kept low kept gs → Stands low (λ l. puts (e ∷ l)) r next kept
+  module _ {height : ℕ} {r : Walk} (moved : Moved w v height r) {next : FrameR K} {kept : List (FrameR K)} where
+    pub taken_on : (g : Frame) (gs : List Frame) → step any_depth (within f fs) v ≡ taken (within g gs) → height ≡ length gs → (In low (length gs) → Is numbered next g) → Kept numbered low kept gs → Stands numbered low (λ l. puts (e ∷ l)) r next kept
     taken_on g gs goes tall innermost still =
         on g gs (record {
           goes = λ l. at-event l ∙ course_goes any_depth (within f fs) (within g gs) v (map read l) goes;
@@ -114,7 +118,7 @@ module _ {low : ℕ} {puts : List Flat → List Flat} {w : Walk} {top : Held} {s
           kept = still;
         })
 
-    pub refused_on : Refused (step any_depth (within f fs) v) → (In low (length fs) → ⊥) → w.height ≤ w.highest → Stands low (λ l. puts (e ∷ l)) r next kept
+    pub refused_on : Refused (step any_depth (within f fs) v) → (In low (length fs) → ⊥) → w.height ≤ w.highest → Stands numbered low (λ l. puts (e ∷ l)) r next kept
     refused_on stops unseen high = off (record { height = length fs; falls = λ l. at-event l ∙ course_falls any_depth (within f fs) v (map read l) stops; unseen = unseen; most = omega (arith, o.tall, moved.grows) })
 
 -- ---- an event that was counted, in all that a pass knows
@@ -131,12 +135,12 @@ pub record Counted (bytes : List ℕ) (i : ℕ) (feature : ℕ) (e : Flat) (v : 
   pub own : eqb (feature_in (record_of bytes i)) feature ≡ true
   pub reads : read e ≡ v
 
-module _ {bytes : List ℕ} {low feature i : ℕ} {w : Walk} {top : Held} {stored : List Held} (a : Along bytes low feature i w top stored) {e : Flat} {v : Event} (c : Counted bytes i feature e v) {height : ℕ} {r : Walk} (moved : Moved w v height r) {next : Held} {kept : List Held} where
+module _ {K : Type 0} {numbered : K → ℕ} {bytes : List ℕ} {low feature i : ℕ} {w : Walk} {top : FrameR K} {stored : List (FrameR K)} (a : Along numbered bytes low feature i w top stored) {e : Flat} {v : Event} (c : Counted bytes i feature e v) {height : ℕ} {r : Walk} (moved : Moved w v height r) {next : FrameR K} {kept : List (FrameR K)} where
   -- off stays off
-  still_off : Off low a.puts w.highest → Stands low (λ l. a.puts (e ∷ l)) r next kept
+  still_off : Off low a.puts w.highest → Stands numbered low (λ l. a.puts (e ∷ l)) r next kept
   still_off o = off (record { height = o.height; falls = λ l. o.falls (e ∷ l); unseen = o.unseen; most = omega (arith, o.most, moved.grows) })
 
-  pub counted : height ≤ i + 1 → ((f : Frame) (fs : List Frame) → On low a.puts w top stored f fs → Stands low (λ l. a.puts (e ∷ l)) r next kept) → Along bytes low feature (i + 1) r next kept
+  pub counted : height ≤ i + 1 → ((f : Frame) (fs : List Frame) → On numbered low a.puts w top stored f fs → Stands numbered low (λ l. a.puts (e ∷ l)) r next kept) → Along numbered bytes low feature (i + 1) r next kept
   counted few go_on = record {
     puts = λ l. a.puts (e ∷ l);
     listing = listed_on bytes i c.less (events_in bytes) a.puts a.listing e c.is;
@@ -148,6 +152,6 @@ module _ {bytes : List ℕ} {low feature i : ℕ} {w : Walk} {top : Held} {store
     stands = by_state a.stands;
   }
     where
-      by_state : Stands low a.puts w top stored → Stands low (λ l. a.puts (e ∷ l)) r next kept
+      by_state : Stands numbered low a.puts w top stored → Stands numbered low (λ l. a.puts (e ∷ l)) r next kept
       by_state (on f fs o) = go_on f fs o
       by_state (off o) = still_off o

@@ -6,7 +6,7 @@ use Rattle.std.proofs.lemmas.Result.{err_from_is_err_and}
 use Rattle.kinds.specs.declared.value.Value.{Value}
 use Rattle.property_reader.specs.declared.item.Property.{Property}
 use Rattle.property_reader.specs.Reading.{Item, End, Skipped, Found, property_as, end_or}
-use Rattle.property_reader.specs.ReadingSteps.{begun, leads, at-end, at_refusal, at_skipped, at_full_log, at_last, at_next}
+use Rattle.property_reader.specs.ReadingSteps.{begun, leads, at-end, at_refusal, at_skipped, at_full_log, at_last_said, at_next_said}
 use Rattle.property_reader.proofs.read_all.Goals as goal
 
 -- the item, from the property that is answered, and from its value
@@ -46,7 +46,7 @@ returns-in_err-say c =
 pub returns-then-value-stop : goal.returns-then-value-stop
 returns-then-value-stop c =
     let item = finds _ c.in-Some-value.value _ _ c.in-Some-value.is (stands _ c.in-Some.property _ c.in-Some.is c.in_ok-property.ensures) in
-    at_last c.loop-property.invariant c.in-Some-value.value _ item c.in_ok-say.ensures c.if-value-stop.true
+    at_last_said c.loop-property.invariant c.in-Some-value.value _ item c.in_ok-say.ensures c.if-value-stop.true
 
 pub loop-property-smaller-else-value-stop : goal.loop-property-smaller-else-value-stop
 loop-property-smaller-else-value-stop c =
@@ -56,7 +56,7 @@ loop-property-smaller-else-value-stop c =
 pub loop-property-preserved-else-value-stop : goal.loop-property-preserved-else-value-stop
 loop-property-preserved-else-value-stop c =
     let item = finds _ c.in-Some-value.value _ _ c.in-Some-value.is (stands _ c.in-Some.property _ c.in-Some.is c.in_ok-property.ensures) in
-    at_next c.loop-property.invariant c.in-Some-value.value _ item c.in_ok-say.ensures c.if-value-stop.false
+    at_next_said c.loop-property.invariant c.in-Some-value.value _ item c.in_ok-say.ensures c.if-value-stop.false
 
 pub loop-property-smaller : goal.loop-property-smaller
 loop-property-smaller c =

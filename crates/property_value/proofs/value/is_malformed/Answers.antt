@@ -1,5 +1,5 @@
 use Rattle.std.specs.Prelude.{◌≡◌, refl, ℕ, ◌<◌, [], ◌∷◌, get_or, ltb}
-use Rattle.std.proofs.Common.{arith, le-ltb, lt-ltb, sym, ◌∙◌}
+use Rattle.std.proofs.Common.{arith, le-ltb, lt-ltb, sym}
 use Rattle.kinds.specs.declared.column_type.ColumnType.{ColumnType}
 use Rattle.kinds.specs.declared.column_type.ColumnType.TheVariants.{Byte, UByte, Bool, Short, UShort, Int, UInt, Long, ULong, Float, Double, String, Json, DateTime, Binary}
 use Rattle.kinds.specs.ColumnType.{type_number}
