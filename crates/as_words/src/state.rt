@@ -45,8 +45,8 @@ const WAITING: u8 = 4;
 
 const NUMBERED: u8 = 8;
 
-// Marked, as state_of() and what keeps a state are, since LLVM else lays the five bytes of a typing on the stack in bintolage_property() and
-// reads them back.
+// It is inlined, as state_of(), head_of(), words_of(), keep_numbered() and keep() are: else LLVM lays the five bytes of a typing on the stack
+// in bintolage_property(), and reads them back.
 #[tactic(auto, unfolding(crate::specs::Words::typing_of))]
 #[inline(always)]
 fn typing_of(head: u32) -> Typing

@@ -15,10 +15,9 @@ use Rattle.kinds.specs.declared.event.Event.{Event}
 use Rattle.kinds.specs.Event.{xy_e}
 use Rattle.kinds.specs.declared.refusal.Refusal.{Refusal}
 use Rattle.kinds.specs.Refusal.{number_of, answer_of}
-use Rattle.coords.specs.declared.lists.Lists.{Lists}
 use Rattle.coords.specs.declared.lists.Window.{Window}
 use Rattle.coords.specs.Coords.{Value, Absent, Past, Present, Lanes, Coords, head_of, dropped, tails, taken, coordinate_s, pair_s, coords_s, between_s}
-use Rattle.coords.specs.Views.{list_in, coords_in, pairs_in, window_s, told, Windowed, Numbered}
+use Rattle.coords.specs.Views.{list_in, pairs_in, window_s, told, Windowed, Numbered}
 use Rattle.coords.specs.PairLaws.{tails-dropped}
 use Rattle.event_log.specs.declared.log.Log.{Log}
 use Rattle.event_log.specs.Pairs.{xy_s}
@@ -169,5 +168,8 @@ module _ (many : Bool) (L : Lanes) (from to : ℕ) {o : OptionR (Bor (List ℕ))
   window_some {l} last h k p q e = rw (h, p, q, same_words from to l.now k, e)
 
 -- the window that holds them says what is between two pairs of a record's lists
-pub between_is : {A : Type 0} {number : A → ℕ} (l : Lists) {from to : ℕ} {w : Window A} → Windowed number l.xy from to w → between_s l.many (list_in l.xy) (coords_in l).lanes from to ≡ window_s number (coords_in l) w
-between_is {number = number} l {w = w} h = h.says l.many (coords_in l).lanes ∙ ap (λ (k : ℕ). coords_s l.many (dropped k (coords_in l).lanes) w.words.now 0 (number w.last)) (sym h.from_is)
+pub between_is : {A : Type 0} {number : A → ℕ} (C : Coords) {xy : OptionR (Bor (List ℕ))} {from to : ℕ} {w : Window A} → list_in xy ≡ C.xy → Windowed number xy from to w
+    → between_s C.many C.xy C.lanes from to ≡ window_s number C w
+between_is {number = number} C {from = from} {to = to} {w = w} of_it h =
+    ap (λ (o : Option (List ℕ)). between_s C.many o C.lanes from to) (sym of_it) ∙ h.says C.many C.lanes
+    ∙ ap (λ (k : ℕ). coords_s C.many (dropped k C.lanes) w.words.now 0 (number w.last)) (sym h.from_is)

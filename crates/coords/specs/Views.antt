@@ -8,7 +8,7 @@ use Rattle.laws.specs.Script.{Script, stop, say, out, run}
 use Rattle.kinds.specs.declared.event.Event.{Event}
 use Rattle.kinds.specs.declared.refusal.Refusal.{Refusal}
 use Rattle.kinds.specs.declared.refusal.Refusal.TheVariants.{PastList}
-use Rattle.kinds.specs.Refusal.{number_of, answer_of}
+use Rattle.kinds.specs.Refusal.{number_of}
 use Rattle.event_log.specs.declared.log.Log.{Log}
 use Rattle.event_log.specs.declared.layouts.Events.{Events}
 use Rattle.event_log.specs.Says.{of_events}

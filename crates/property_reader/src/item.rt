@@ -18,8 +18,8 @@ pub struct Property {
     pub next: usize,
 }
 
-// None where the bytes are read to their end. One trailing byte is no property. Marked, as those that it
-// calls are, since LLVM then puts the parts of a property into one word a time less.
+// None where the bytes are read to their end. One trailing byte is no property. It is inlined, as
+// value_at(), number_at(), text_at() and bytes_at() are: LLVM then takes fewer instructions for a property.
 #[inline(always)]
 pub fn property_at(
     bytes: &[u8],

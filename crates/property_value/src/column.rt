@@ -5,8 +5,8 @@ ghost use Rattle.property_value.specs.Column.{WidthIs, is_text};
 
 use kinds::column_type::ColumnType;
 
-// How many bytes a number of each type has, by the type's number, and 0 for the types that have a length first. Of a match over the types LLVM
-// makes a jump by a table wherever a width is asked for; this it looks up once.
+// How many bytes a number of each type has, by the type's number, and 0 for the types that have a length first. It is a table and no match,
+// since of a match LLVM makes a jump wherever a width is asked for.
 const WIDTHS: [usize; 15] = [1, 1, 1, 2, 2, 4, 4, 8, 8, 4, 8, 0, 0, 0, 0];
 
 // How many bytes a number has, and none for the types that have a length first.

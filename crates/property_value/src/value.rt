@@ -7,7 +7,8 @@ use crate::column::is_text;
 use kinds::column_type::ColumnType;
 use utf8::first_bad;
 
-// The most that the bits of a value are, by the type's number. Eight bytes hold any bits, and those of a text are passed over.
+// The most that the bits of a value are, by the type's number. Eight bytes hold any bits, and those of a value with
+// a length first are passed over.
 const MOST: [u64; 15] = [
     0xff, // Byte
     0xff, // UByte

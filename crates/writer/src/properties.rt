@@ -9,7 +9,7 @@ use property_writer::{Property, put_property};
 use writing::state::State;
 
 // Lays a value down after the feature's other property bytes. Refused: 15, 16, 11, 6, 12.
-// Marked for the same reason as what `as_words` makes a state with. A copy of the whole state is changed, and none is built anew: that takes
+// It is inlined for the same reason as what `as_words` makes a state with. A copy of the whole state is changed, and none is built anew: that takes
 // Rattle's own compiler fewer instructions.
 #[tactic(auto, unfolding(crate::specs::Property::property_call, crate::specs::Property::property_place))]
 #[inline(always)]

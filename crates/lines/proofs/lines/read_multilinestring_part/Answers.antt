@@ -1,3 +1,4 @@
+use Rattle.std.proofs.Common.{refl}
 use Rattle.event_log.specs.Says.{of_events}
 use Rattle.event_log.specs.SaysLaws.{refuses}
 use Rattle.coords.specs.Views.{coords_in}
@@ -12,4 +13,4 @@ pub read_window-requires : goal.read_window-requires
 read_window-requires c = c.between.ensures.within 131072 c.args.lists.now.few_words
 
 pub returns : goal.returns
-returns c = let a = c.args in rw (stretch_good (coords_in a.lists.now) a.before a.end a.idx c.bad_end.ensures c.if-bad_end.false (between_is a.lists.now c.between.ensures)) (answered (rw c.number.ensures.is at c.read_window.ensures))
+returns c = let a = c.args in rw (stretch_good (coords_in a.lists.now) a.before a.end a.idx c.bad_end.ensures c.if-bad_end.false (between_is (coords_in a.lists.now) refl c.between.ensures)) (answered (rw c.number.ensures.is at c.read_window.ensures))

@@ -1,3 +1,5 @@
+use Rattle.std.proofs.Common.{refl}
+use Rattle.coords.specs.Views.{coords_in}
 use Rattle.coords.specs.CoordLaws.{answered, between_is}
 use Rattle.lines.specs.Lines.{point_s}
 use Rattle.own_lists.specs.Own.{own_s}
@@ -8,7 +10,7 @@ read_window-requires c = c.between.ensures.within 131072 c.args.lists.now.few_wo
 
 pub returns-in-Point : goal.returns-in-Point
 unfolding own_s point_s
-returns-in-Point c = rw (c.in-Point.is, between_is c.args.lists.now c.between.ensures) (answered (rw c.number.ensures.is at c.read_window.ensures))
+returns-in-Point c = rw (c.in-Point.is, between_is (coords_in c.args.lists.now) refl c.between.ensures) (answered (rw c.number.ensures.is at c.read_window.ensures))
 
 pub returns-in-LineString : goal.returns-in-LineString
 unfolding own_s
